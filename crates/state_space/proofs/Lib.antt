@@ -1,0 +1,6 @@
+pub mod BitSets
+pub mod NameForms
+pub mod NameLists
+pub mod Places
+pub mod SpaceFacts
+pub mod Spellings

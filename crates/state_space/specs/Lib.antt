@@ -1,0 +1,7 @@
+pub mod Keywords
+pub mod Names
+pub mod Members
+pub mod Ranges
+pub mod OneProof
+pub mod Spaces
+pub mod Fitting
