@@ -1,0 +1,17 @@
+pub mod Tokens
+pub mod Lexing
+pub mod Seen
+pub mod RawTrees
+pub mod Leaves
+pub mod FormulaGrammar
+pub mod RawSeen
+pub mod Reading
+pub mod Statements
+pub mod Grammar
+pub mod StatementReading
+pub mod FormulaReading
+pub mod Readers
+pub mod Writing
+pub mod Layout
+pub mod Lines
+pub mod Writable

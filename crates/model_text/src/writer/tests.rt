@@ -1,0 +1,66 @@
+//! Texts written out by hand from the grammar and the rules of spacing.
+
+use super::model_text;
+use crate::text::read_model;
+use std::alloc::Global;
+use std::test::Fail;
+
+// The written form of the statements of a text, without its first line.
+fn rewritten(alloc: Global, statement: &str) -> Result<String, Fail> {
+    let text = format!(in alloc; "kaos 1; {statement}")?;
+    let raw = read_model(alloc, text.as_bytes())?;
+    let out = String::from_utf8(model_text(alloc, &raw)?)?;
+    Ok(out)
+}
+
+#[test]
+fn parentheses(rt: HostRuntime) -> Result<(), Fail> {
+    let alloc = rt.alloc();
+    for (text, expected) in [
+        ("goal g: a and (b and c);", "goal g: a and (b and c);"),
+        ("goal g: (a and b) and c;", "goal g: a and b and c;"),
+        (
+            "goal g: a implies (b implies c);",
+            "goal g: a implies b implies c;",
+        ),
+        (
+            "goal g: (a implies b) implies c;",
+            "goal g: (a implies b) implies c;",
+        ),
+        ("goal g: not (a or b);", "goal g: not (a or b);"),
+        ("goal g: (not (a)) or b;", "goal g: not a or b;"),
+        ("goal g: always within 3 (p);", "goal g: always within 3 p;"),
+        (
+            "goal g: (a until within 2 b) and (c entails d);",
+            "goal g: a until within 2 b and (c entails d);",
+        ),
+    ] {
+        let expected = format!(in alloc; "kaos 1;\n{expected}\n")?;
+        assert_eq!(rt; rewritten(alloc, text)?, expected);
+    }
+    Ok(())
+}
+
+#[test]
+fn spaces(rt: HostRuntime) -> Result<(), Fail> {
+    let alloc = rt.alloc();
+    for (text, expected) in [
+        ("goal g:x   in{u,v} ;", "goal g: x in {u, v};"),
+        ("var n : -5 .. 3;", "var n: -5..3;"),
+        ("var m:{u , v};", "var m: {u, v};"),
+        ("agent h controls u,v;", "agent h controls u, v;"),
+        (
+            "refine g by h , k using milestone;",
+            "refine g by h, k using milestone;",
+        ),
+        ("goal g: n<=007;", "goal g: n <= 7;"),
+        (
+            "trace T:{a=true}loop{a=false,n=3}{};",
+            "trace T: {a = true} loop {a = false, n = 3} {};",
+        ),
+    ] {
+        let expected = format!(in alloc; "kaos 1;\n{expected}\n")?;
+        assert_eq!(rt; rewritten(alloc, text)?, expected);
+    }
+    Ok(())
+}
