@@ -1,0 +1,13 @@
+pub mod ValuesTexts
+pub mod Adding
+pub mod ReachMarks
+pub mod ReachSearch
+pub mod PlainModels
+pub mod Resolving
+pub mod OneWord
+pub mod DemandParts
+pub mod ValuationLaws
+pub mod ValuationOrder
+pub mod ValuationParts
+pub mod RunParts
+pub mod Answering

@@ -1,0 +1,7 @@
+use Rattle.std.proofs.Common.{map, take}
+use Rattle.kaos_program.specs.Models.{model_of, link_of}
+use Rattle.kaos_program.specs.Reports.{AreEntries}
+use Rattle.kaos_program.proofs.demand.report.Given as goal
+
+abbrev pub invariant-links : goal.invariant-links
+invariant-links l = AreEntries (model_of l.model) (map link_of (take l.link-index l.model.links.items)) l.entries.items

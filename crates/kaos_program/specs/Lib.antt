@@ -1,0 +1,13 @@
+pub mod Models
+pub mod Reachability
+pub mod Marking
+pub mod Resolution
+pub mod Demands
+pub mod Plain
+pub mod Valuations
+pub mod Judging
+pub mod Reports
+pub mod Texts
+pub mod Answering
+pub mod Running
+pub mod Finishing

@@ -1,0 +1,530 @@
+//! Answers to texts, and what runs do at faults, each worked out by hand from the rules of models and reports.
+
+use crate::run::run;
+use source_sink::{MemorySink, MemorySource, SteadySource};
+use std::alloc::{AllocError, Global};
+use std::process::Abort;
+use std::test::Fail;
+
+const MOST: usize = 1_048_576;
+
+const EMPTY_REPORT: &str = "kaos report 1 budget 20000\ntotal: 0 hold, 0 fail, 0 withheld\n";
+
+const NOT_BUILT: &str = "refused: statement 1: NotBuilt\n";
+
+const USAGE: &str = "usage: kaos check\n";
+
+const FIRST_TEXT: &str =
+    "kaos 1; var a: bool; var b: bool; goal P: always a; goal Q: always b; refine P by Q;";
+
+const FIRST_REPORT: &str = "kaos report 1 budget 20000
+refine 6 P complete: fails
+  lasso 0 1
+  state a=false b=true
+total: 0 hold, 1 fail, 0 withheld
+";
+
+// A text of one variable and two goals, behind which more statements can stand.
+const FRONT: &str = "kaos 1; var a: bool; goal P: always a; goal Q: always a;";
+
+fn words_of(alloc: Global, words: &[&str]) -> Result<Vec<String>, AllocError> {
+    let mut given = Vec::new(alloc);
+    for word in words {
+        given.push(String::from_str(alloc, word)?)?;
+    }
+    Ok(given)
+}
+
+fn repeated(alloc: Global, piece: &str, count: usize) -> Result<String, AllocError> {
+    let mut text = String::new(alloc);
+    for _ in 0..count {
+        text.push_str(piece)?;
+    }
+    Ok(text)
+}
+
+// A run on these bytes ends with this status, and writes this output.
+fn answers(
+    rt: &impl Abort,
+    alloc: Global,
+    name: &str,
+    bytes: &[u8],
+    status: u8,
+    output: &str,
+) -> Result<(), Fail> {
+    let words = words_of(alloc, &["check"])?;
+    let bytes = Vec::from_slice(alloc, bytes)?;
+    let mut source = MemorySource::new(bytes, MOST, Vec::new(alloc));
+    let mut sink = MemorySink::new(alloc, MOST, MOST, Vec::new(alloc))?;
+    let outcome = run(alloc, &words, &mut source, &mut sink);
+    assert_eq!(rt; sink.bytes(), output.as_bytes(), "{name}");
+    assert_eq!(rt; outcome.status.0, status, "{name}");
+    assert_eq!(rt; outcome.report.is_some(), status < 2, "{name}");
+    Ok(())
+}
+
+#[test]
+fn first_path(rt: HostRuntime) -> Result<(), Fail> {
+    let holds = "kaos report 1 budget 20000
+refine 6 P complete: holds
+total: 1 hold, 0 fail, 0 withheld
+";
+    let held =
+        "kaos 1; var a: bool; var b: bool; goal P: always a; goal Q: always a; refine P by Q;";
+    let rows = [
+        ("fails", FIRST_TEXT, 1, FIRST_REPORT),
+        ("holds", held, 0, holds),
+        ("no statement", "kaos 1;", 0, EMPTY_REPORT),
+        ("no demand", FRONT, 0, EMPTY_REPORT),
+        ("a zero before the version", "kaos 01;", 0, EMPTY_REPORT),
+    ];
+    for (name, text, status, output) in rows {
+        answers(&rt, rt.alloc(), name, text.as_bytes(), status, output)?;
+    }
+    let odd = b"kaos 1;#\xff\xff\x00\xff";
+    answers(&rt, rt.alloc(), "odd bytes", odd, 0, EMPTY_REPORT)
+}
+
+// The answer to a goal that is refined by another, over three variables: the state that refutes
+// it, or none where it holds.
+fn refines(
+    rt: &impl Abort,
+    alloc: Global,
+    parent: &str,
+    subgoal: &str,
+    state: &str,
+) -> Result<(), Fail> {
+    let name = format!(in alloc; "{parent} by {subgoal}")?;
+    let text = format!(in alloc;
+        "kaos 1; var a: bool; var b: bool; var c: bool; goal P: always ({parent}); goal Q: always ({subgoal}); refine P by Q;"
+    )?;
+    let (status, entry) = if state.is_empty() {
+        (0, format!(in alloc; "holds\ntotal: 1 hold, 0 fail")?)
+    } else {
+        (
+            1,
+            format!(in alloc; "fails\n  lasso 0 1\n  state {state}\ntotal: 0 hold, 1 fail")?,
+        )
+    };
+    let output = format!(in alloc;
+        "kaos report 1 budget 20000\nrefine 7 P complete: {entry}, 0 withheld\n"
+    )?;
+    answers(rt, alloc, &name, text.as_bytes(), status, &output)
+}
+
+#[test]
+fn operators(rt: HostRuntime) -> Result<(), Fail> {
+    for (parent, subgoal, state) in [
+        ("true", "a", ""),
+        ("a", "false", ""),
+        ("a", "true", "a=false b=false c=false"),
+        ("false", "c", "a=false b=false c=true"),
+        ("not a", "true", "a=true b=false c=false"),
+        ("not not a", "a", ""),
+        ("a or b", "a", ""),
+        ("a", "a or b", "a=false b=true c=false"),
+        ("a", "a and b", ""),
+        ("a and b", "a", "a=true b=false c=false"),
+        ("a implies b", "b", ""),
+        ("a implies b", "true", "a=true b=false c=false"),
+        ("b", "a implies b", "a=false b=false c=false"),
+        ("a iff b", "a and b", ""),
+        ("a iff b", "true", "a=false b=true c=false"),
+        ("a and b", "a iff b", "a=false b=false c=false"),
+    ] {
+        refines(&rt, rt.alloc(), parent, subgoal, state)?;
+    }
+    Ok(())
+}
+
+// Each row would have another answer if the operators were grouped the other way.
+#[test]
+fn groups(rt: HostRuntime) -> Result<(), Fail> {
+    for (parent, subgoal, state) in [
+        ("not a and b", "true", "a=false b=false c=false"),
+        ("not a or b", "true", "a=true b=false c=false"),
+        ("false", "not a implies b", "a=false b=true c=false"),
+        ("a or b and c", "a", ""),
+        ("a and b or c", "c", ""),
+        ("a or b implies c", "a", "a=true b=false c=false"),
+        ("a and b implies c", "true", "a=true b=true c=false"),
+        ("a implies b and c", "true", "a=true b=false c=false"),
+        ("a implies b implies c", "true", "a=true b=true c=false"),
+        ("false", "a iff b implies c", "a=false b=true c=false"),
+        ("a implies b iff c", "true", "a=false b=false c=false"),
+        ("a or b iff c", "a", "a=true b=false c=false"),
+        ("a and b iff c", "true", "a=false b=false c=true"),
+        ("(a or b) and c", "a", "a=true b=false c=false"),
+        ("not (a and b)", "true", "a=true b=true c=false"),
+        ("(a implies b) implies c", "true", "a=false b=false c=false"),
+        ("not (a implies b)", "true", "a=false b=false c=false"),
+        ("(a iff b) implies c", "b and not a", ""),
+    ] {
+        refines(&rt, rt.alloc(), parent, subgoal, state)?;
+    }
+    Ok(())
+}
+
+// The report of a text behind its first line.
+fn reports(
+    rt: &impl Abort,
+    alloc: Global,
+    name: &str,
+    text: &str,
+    status: u8,
+    rest: &str,
+) -> Result<(), Fail> {
+    let output = format!(in alloc; "kaos report 1 budget 20000\n{rest} withheld\n")?;
+    answers(rt, alloc, name, text.as_bytes(), status, &output)
+}
+
+#[test]
+fn models(rt: HostRuntime) -> Result<(), Fail> {
+    for (name, text, status, rest) in [
+        (
+            "blanks and comments",
+            "kaos\t1\r\n;var a#b: bool;\n:bool;\t#\n\ngoal P:always(a);goal\rQ\r:\ralways((a));refine P by#;\nQ;#",
+            0,
+            "refine 5 P complete: holds\ntotal: 1 hold, 0 fail, 0",
+        ),
+        (
+            "a property rescues",
+            "kaos 1; var a: bool; var b: bool; domain D: always (b implies a); goal P: always a; goal Q: always b; refine P by Q;",
+            0,
+            "refine 7 P complete: holds\ntotal: 1 hold, 0 fail, 0",
+        ),
+        (
+            "two properties rescue, one of them stated last",
+            "kaos 1; var a: bool; var b: bool; var c: bool; domain D: always (b implies c); goal P: always a; goal Q: always b; refine P by Q; domain E: always (c implies a);",
+            0,
+            "refine 8 P complete: holds\ntotal: 1 hold, 0 fail, 0",
+        ),
+        (
+            "one property is too little",
+            "kaos 1; var a: bool; var b: bool; var c: bool; domain D: always (b implies c); goal P: always a; goal Q: always b; refine P by Q;",
+            1,
+            "refine 8 P complete: fails\n  lasso 0 1\n  state a=false b=true c=true\ntotal: 0 hold, 1 fail, 0",
+        ),
+        (
+            "several parents and subgoals",
+            "kaos 1; var a: bool; var b: bool; goal P: always (a and b); goal Q: always a; goal R: always b; refine P by R, Q; refine Q by R; refine P by Q;",
+            1,
+            "refine 7 P complete: holds\nrefine 8 Q complete: fails\n  lasso 0 1\n  state a=false b=true\nrefine 9 P complete: fails\n  lasso 0 1\n  state a=true b=false\ntotal: 1 hold, 2 fail, 0",
+        ),
+        (
+            "a goal below two others",
+            "kaos 1; var a: bool; goal P: always a; goal Q: always a; goal R: always a; goal S: always a; refine P by Q, R; refine Q by S; refine R by S; refine P by S;",
+            0,
+            "refine 7 P complete: holds\nrefine 8 Q complete: holds\nrefine 9 R complete: holds\nrefine 10 P complete: holds\ntotal: 4 hold, 0 fail, 0",
+        ),
+        (
+            "a variable behind the refinement",
+            "kaos 1; var b: bool; goal P: always b; goal Q: always true; refine P by Q; var a: bool;",
+            1,
+            "refine 5 P complete: fails\n  lasso 0 1\n  state b=false a=false\ntotal: 0 hold, 1 fail, 0",
+        ),
+        (
+            "no variable",
+            "kaos 1; goal P: always false; goal Q: always true; refine P by Q;",
+            1,
+            "refine 4 P complete: fails\n  lasso 0 1\n  state\ntotal: 0 hold, 1 fail, 0",
+        ),
+    ] {
+        reports(&rt, rt.alloc(), name, text, status, rest)?;
+    }
+    Ok(())
+}
+
+// A text of a formula that is `always` over a variable in this text.
+fn goal_around(alloc: Global, open: &str, close: &str, count: usize) -> Result<String, AllocError> {
+    let opened = repeated(alloc, open, count)?;
+    let closed = repeated(alloc, close, count)?;
+    format!(in alloc; "always {opened}a{closed}")
+}
+
+#[test]
+fn operators_are_bounded(rt: HostRuntime) -> Result<(), Fail> {
+    let alloc = rt.alloc();
+    let holds =
+        "kaos report 1 budget 20000\nrefine 5 P complete: holds\ntotal: 1 hold, 0 fail, 0 withheld\n";
+    let fails =
+        "kaos report 1 budget 20000\nrefine 5 P complete: fails\n  lasso 0 1\n  state a=true\ntotal: 0 hold, 1 fail, 0 withheld\n";
+    for (name, open, close, count, status, output) in [
+        ("100 parentheses", "(", ")", 100, 0, holds),
+        ("500 operators and parentheses", "(", ")", 499, 0, holds),
+        ("501 operators and parentheses", "(", ")", 500, 2, NOT_BUILT),
+        ("500 operators", "not ", "", 499, 1, fails),
+        ("501 operators", "not ", "", 500, 2, NOT_BUILT),
+    ] {
+        let goal = goal_around(alloc, open, close, count)?;
+        let text = format!(in alloc;
+            "kaos 1; var a: bool; goal P: {goal}; goal Q: always a; refine P by Q;"
+        )?;
+        answers(&rt, alloc, name, text.as_bytes(), status, output)?;
+    }
+    Ok(())
+}
+
+// A text that declares variables `x1`, `x2` and so on, and the report that `x12` fails by `x11`.
+fn with_variables(alloc: Global, count: usize) -> Result<String, AllocError> {
+    let mut text = String::from_str(alloc, "kaos 1;")?;
+    for number in 0..count {
+        let number = number + 1;
+        text.push_str(&format!(in alloc; "var x{number}: bool;")?)?;
+    }
+    text.push_str("goal P: always x12; goal Q: always x11; refine P by Q;")?;
+    Ok(text)
+}
+
+#[test]
+fn variables_are_bounded(rt: HostRuntime) -> Result<(), Fail> {
+    let alloc = rt.alloc();
+    let fails = "kaos report 1 budget 20000
+refine 16 P complete: fails
+  lasso 0 1
+  state x1=false x2=false x3=false x4=false x5=false x6=false x7=false x8=false x9=false x10=false x11=true x12=false
+total: 0 hold, 1 fail, 0 withheld
+";
+    let twelve = with_variables(alloc, 12)?;
+    answers(&rt, alloc, "twelve", twelve.as_bytes(), 1, fails)?;
+    let thirteen = with_variables(alloc, 13)?;
+    answers(&rt, alloc, "thirteen", thirteen.as_bytes(), 2, NOT_BUILT)
+}
+
+#[test]
+fn names_and_bytes_are_bounded(rt: HostRuntime) -> Result<(), Fail> {
+    let alloc = rt.alloc();
+    for (name, length, status, output) in [
+        ("a name of 40 bytes", 40, 0, EMPTY_REPORT),
+        ("a name of 41 bytes", 41, 2, NOT_BUILT),
+    ] {
+        let long = repeated(alloc, "n", length)?;
+        let text = format!(in alloc; "kaos 1; var {long}: bool;")?;
+        answers(&rt, alloc, name, text.as_bytes(), status, output)?;
+    }
+    let too_long = "refused: longer than 1048576 bytes\n";
+    for (name, length, status, output) in [
+        ("a text of 1048576 bytes", MOST, 0, EMPTY_REPORT),
+        ("a text of 1048577 bytes", MOST + 1, 2, too_long),
+    ] {
+        let mut text = Vec::from_slice(alloc, b"kaos 1;")?;
+        text.resize(length, b' ')?;
+        answers(&rt, alloc, name, &text, status, output)?;
+    }
+    Ok(())
+}
+
+// Statements behind the front that no model has.
+fn refuses(rt: &impl Abort, alloc: Global, rows: &[(&str, &str)]) -> Result<(), Fail> {
+    for (name, rest) in rows {
+        let text = format!(in alloc; "{FRONT} {rest}")?;
+        answers(rt, alloc, name, text.as_bytes(), 2, NOT_BUILT)?;
+    }
+    Ok(())
+}
+
+#[test]
+fn refused_names(rt: HostRuntime) -> Result<(), Fail> {
+    let rows = [
+        ("a variable declared twice", "var a: bool;"),
+        ("a variable named as a goal", "var P: bool;"),
+        ("a goal named as a variable", "goal a: always a;"),
+        ("a goal declared twice", "goal P: always a;"),
+        ("a property named as a variable", "domain a: always a;"),
+        ("a property named as a goal", "domain Q: always a;"),
+        (
+            "a property declared twice",
+            "domain D: always a; domain D: always a;",
+        ),
+        (
+            "a goal named as a property",
+            "domain D: always a; goal D: always a;",
+        ),
+        (
+            "a variable named as a property",
+            "domain D: always a; var D: bool;",
+        ),
+        ("an unknown name in a goal", "goal R: always b;"),
+        ("an unknown name in a property", "domain D: always b;"),
+        (
+            "a variable before its statement",
+            "goal R: always b; var b: bool;",
+        ),
+        ("a goal as a variable", "goal R: always P;"),
+        (
+            "a property as a variable",
+            "domain D: always a; goal R: always D;",
+        ),
+        ("a goal within a formula", "goal R: always (a or not Q);"),
+        ("a name of other case", "goal R: always A;"),
+    ];
+    refuses(&rt, rt.alloc(), &rows)
+}
+
+#[test]
+fn refused_refinements(rt: HostRuntime) -> Result<(), Fail> {
+    let rows = [
+        ("an unknown parent", "refine R by P;"),
+        ("an unknown subgoal", "refine P by R;"),
+        ("an unknown second subgoal", "refine P by Q, R;"),
+        (
+            "a subgoal before its statement",
+            "refine P by R; goal R: always a;",
+        ),
+        ("a variable as a parent", "refine a by P;"),
+        ("a variable as a subgoal", "refine P by a;"),
+        (
+            "a property as a subgoal",
+            "domain D: always a; refine P by D;",
+        ),
+        ("a subgoal twice", "refine P by Q, Q;"),
+        (
+            "a subgoal twice, another between",
+            "goal R: always a; refine P by Q, R, Q;",
+        ),
+        ("a goal by itself", "refine P by P;"),
+        ("a goal by others and itself", "refine P by Q, P;"),
+        ("a cycle of two", "refine P by Q; refine Q by P;"),
+        (
+            "a cycle of three",
+            "goal R: always a; refine P by Q; refine Q by R; refine R by P;",
+        ),
+        (
+            "a cycle over second links and subgoals",
+            "goal R: always a; goal S: always a; refine Q by R; refine Q by S, P; refine P by R, Q;",
+        ),
+    ];
+    refuses(&rt, rt.alloc(), &rows)
+}
+
+#[test]
+fn refused_forms(rt: HostRuntime) -> Result<(), Fail> {
+    let rows = [
+        ("no always", "goal R: a;"),
+        ("eventually", "goal R: eventually a;"),
+        ("always of one side", "goal R: always a or a;"),
+        ("always within", "goal R: always within 1 a;"),
+        ("always twice", "goal R: always always a;"),
+        ("next within", "goal R: always next a;"),
+        ("until within", "goal R: always (a until a);"),
+        ("entails", "goal R: a entails a;"),
+        ("a comparison", "goal R: always (a = true);"),
+        ("no always in a property", "domain D: a;"),
+        ("a range of words", "var x: {a, b};"),
+        ("a second version", "kaos 1;"),
+        ("an iff within an iff", "goal R: always (a iff a iff a);"),
+        ("a missing semicolon", "goal R: always a"),
+        ("a missing colon", "goal R always a;"),
+        ("a missing formula", "goal R: always;"),
+        ("a parenthesis that is not closed", "goal R: always (a;"),
+        ("a parenthesis that is not open", "goal R: always a);"),
+        ("a missing name", "refine P by Q,;"),
+        ("a missing by", "refine P Q;"),
+        ("a keyword as a name", "goal goal: always a;"),
+        ("a semicolon alone", ";"),
+        ("a bad byte", "!"),
+        ("bytes that are not ASCII", "goal R: always \u{e4};"),
+    ];
+    refuses(&rt, rt.alloc(), &rows)
+}
+
+#[test]
+fn refused_versions(rt: HostRuntime) -> Result<(), Fail> {
+    for (name, text) in [
+        ("no byte", ""),
+        ("another version", "kaos 2;"),
+        ("no version", "kaos;"),
+        ("no semicolon", "kaos 1"),
+        ("a statement before it", "var a: bool; kaos 1;"),
+        ("no such statement", "var a: bool;"),
+        ("another case", "Kaos 1;"),
+        ("all in a comment", "# kaos 1;"),
+    ] {
+        answers(&rt, rt.alloc(), name, text.as_bytes(), 2, NOT_BUILT)?;
+    }
+    Ok(())
+}
+
+#[test]
+fn read_faults(rt: HostRuntime) -> Result<(), Fail> {
+    let alloc = rt.alloc();
+    let words = words_of(alloc, &["check"])?;
+    for (name, failing) in [("the first read", 1), ("the second", 2), ("the last", 7)] {
+        let bytes = Vec::from_slice(alloc, FIRST_TEXT.as_bytes())?;
+        let failing = Vec::from_slice(alloc, &[failing])?;
+        let mut source = MemorySource::new(bytes, 16, failing);
+        let mut sink = MemorySink::new(alloc, MOST, MOST, Vec::new(alloc))?;
+        let outcome = run(alloc, &words, &mut source, &mut sink);
+        assert_eq!(rt; outcome.status.0, 4, "{name}");
+        assert!(rt;
+            outcome.report.is_none() && sink.bytes().is_empty(),
+            "{name}"
+        );
+    }
+    Ok(())
+}
+
+#[test]
+fn write_faults(rt: HostRuntime) -> Result<(), Fail> {
+    let alloc = rt.alloc();
+    for (name, word, text, room, failing, held) in [
+        ("the first write", "check", FIRST_TEXT, MOST, 1, ""),
+        (
+            "the third write",
+            "check",
+            FIRST_TEXT,
+            MOST,
+            3,
+            "kaos report 1 bu",
+        ),
+        (
+            "no room left",
+            "check",
+            FIRST_TEXT,
+            20,
+            99,
+            "kaos report 1 budget",
+        ),
+        ("a refusal", "check", "kaos 2;", MOST, 2, "refused:"),
+        ("the usage text", "help", FIRST_TEXT, MOST, 2, "usage: k"),
+    ] {
+        let words = words_of(alloc, &[word])?;
+        let mut source = SteadySource::new(Vec::from_slice(alloc, text.as_bytes())?);
+        let failing = Vec::from_slice(alloc, &[failing])?;
+        let mut sink = MemorySink::new(alloc, room, 8, failing)?;
+        let outcome = run(alloc, &words, &mut source, &mut sink);
+        assert_eq!(rt; outcome.status.0, 5, "{name}");
+        assert_eq!(rt; sink.bytes(), held.as_bytes(), "{name}");
+    }
+    Ok(())
+}
+
+// Words that are not accepted leave the source as it is: a second run reads all of it.
+#[test]
+fn other_words(rt: HostRuntime) -> Result<(), Fail> {
+    let alloc = rt.alloc();
+    let rows: [(&str, &[&str]); 7] = [
+        ("none", &[]),
+        ("an empty word", &[""]),
+        ("another word", &["report"]),
+        ("another case", &["Check"]),
+        ("a longer word", &["checks"]),
+        ("the word twice", &["check", "check"]),
+        ("the word and another", &["check", "-"]),
+    ];
+    let accepted = words_of(alloc, &["check"])?;
+    for (name, words) in rows {
+        let words = words_of(alloc, words)?;
+        let mut source = SteadySource::new(Vec::from_slice(alloc, FIRST_TEXT.as_bytes())?);
+        let mut sink = MemorySink::new(alloc, MOST, MOST, Vec::new(alloc))?;
+        let outcome = run(alloc, &words, &mut source, &mut sink);
+        assert_eq!(rt; outcome.status.0, 3, "{name}");
+        assert!(rt; outcome.report.is_none(), "{name}");
+        assert_eq!(rt; sink.bytes(), USAGE.as_bytes(), "{name}");
+        let mut second = MemorySink::new(alloc, MOST, MOST, Vec::new(alloc))?;
+        let outcome = run(alloc, &accepted, &mut source, &mut second);
+        assert_eq!(rt; outcome.status.0, 1, "{name}");
+        assert_eq!(rt; second.bytes(), FIRST_REPORT.as_bytes(), "{name}");
+    }
+    Ok(())
+}
