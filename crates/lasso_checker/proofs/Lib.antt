@@ -1,0 +1,14 @@
+pub mod OneBit
+pub mod Positions
+pub mod Filling
+pub mod WordRows
+pub mod Bitwise
+pub mod Congruence
+pub mod RowCounts
+pub mod Stepping
+pub mod Unfoldings
+pub mod TwoPasses
+pub mod KeptRows
+pub mod Constants
+pub mod BoundedSteps
+pub mod ListOfFormulas

@@ -1,0 +1,7 @@
+use Rattle.std.proofs.Common.{◌≡◌}
+use Rattle.lasso_checker.specs.Places.{bit_of}
+use Rattle.lasso_checker.proofs.WordRows.{Worked}
+use Rattle.lasso_checker.proofs.rows.not_row.Given as goal
+
+abbrev pub invariant-row : goal.invariant-row
+invariant-row l = Worked (λ q. ¬ (bit_of l.fn.table l.base q ≡ 1)) l.fn.table l.table l.base l.word
