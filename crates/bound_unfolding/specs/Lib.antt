@@ -1,0 +1,5 @@
+pub mod CoreForm
+pub mod CoreTree
+pub mod CoreSeen
+pub mod Weights
+pub mod CoreTexts
