@@ -4,7 +4,7 @@ use Rattle.std.specs.Prelude.{bit_and, bit_or, IsTrue, nat_eq, min, max}
 use Rattle.std.specs.Int.{bit_at, bit_not, w64, trailing_zeros}
 use Rattle.std.proofs.lemmas.Nat.Bits.{bit_at_and, bit_at_or, bit_at-pow_same, bit_at-pow_other, bit_at-lt, bit_at_not, bit_at_above, bit_at_ones, bit_at_ones_above, bit_at-zero, bit_at-trailing_zeros, same_from_bits}
 use Rattle.std.proofs.lemmas.Nat.{pow_below, and_mask}
-use Rattle.std.proofs.Math.Nat.{mod-eq_of_lt}
+use Rattle.std.proofs.Math.Nat.{max_comm, mod-eq_of_lt}
 use Rattle.std.proofs.lemmas.Bool.{cases_lt, cases_eq, eqb-true, eq-eqb}
 
 min_is_one : (x y z : ℕ) → z ≡ min x y → x < 2 → y < 2 → (z ≡ 1) ↔ ((x ≡ 1) × (y ≡ 1))
@@ -67,6 +67,10 @@ whole_mask a = let small : 2 ^ 64 - 1 - a < 2 ^ 64 = omega arith in sym (and_mas
 
 max_is_one : (x y z : ℕ) → z ≡ max x y → x < 2 → y < 2 → (z ≡ 1) ↔ ((y ≡ 1) ⊎ (x ≡ 1))
 max_is_one x y z e p q = grind arith
+
+pub join_has : (a b i : ℕ) → (bit_at (bit_or a b) i ≡ 1) ↔ ((bit_at a i ≡ 1) ⊎ (bit_at b i ≡ 1))
+join_has a b i =
+    max_is_one (bit_at b i) (bit_at a i) (bit_at (bit_or a b) i) (bit_at_or a b i ∙ max_comm (bit_at a i) (bit_at b i)) (bit_at-lt b i) (bit_at-lt a i)
 
 -- the only bit of a power of two
 power_has : (k i : ℕ) → (bit_at (2 ^ k) i ≡ 1) ↔ (i ≡ k)

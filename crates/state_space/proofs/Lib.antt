@@ -4,3 +4,4 @@ pub mod NameLists
 pub mod Places
 pub mod SpaceFacts
 pub mod Spellings
+pub mod Listing

@@ -5,3 +5,4 @@ pub mod Ranges
 pub mod OneProof
 pub mod Spaces
 pub mod Fitting
+pub mod ValueTexts

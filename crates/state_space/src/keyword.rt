@@ -57,6 +57,64 @@ pub enum Keyword {
     False,
 }
 
+impl Keyword {
+    /// The bytes that it is written with.
+    pub fn spelling(self) -> &'static [u8]
+        ensures { result.now ≡ spelling self }
+    {
+        match self {
+            Keyword::Kaos => b"kaos",
+            Keyword::Var => b"var",
+            Keyword::Domain => b"domain",
+            Keyword::Rule => b"rule",
+            Keyword::Goal => b"goal",
+            Keyword::Obstacle => b"obstacle",
+            Keyword::Refine => b"refine",
+            Keyword::Obstruct => b"obstruct",
+            Keyword::Conflict => b"conflict",
+            Keyword::Agent => b"agent",
+            Keyword::Assign => b"assign",
+            Keyword::Expect => b"expect",
+            Keyword::Operation => b"operation",
+            Keyword::Require => b"require",
+            Keyword::Operationalise => b"operationalise",
+            Keyword::Trace => b"trace",
+            Keyword::Bool => b"bool",
+            Keyword::By => b"by",
+            Keyword::Using => b"using",
+            Keyword::Boundary => b"boundary",
+            Keyword::Monitors => b"monitors",
+            Keyword::Controls => b"controls",
+            Keyword::To => b"to",
+            Keyword::Of => b"of",
+            Keyword::Dompre => b"dompre",
+            Keyword::Dompost => b"dompost",
+            Keyword::On => b"on",
+            Keyword::Pre => b"pre",
+            Keyword::Trig => b"trig",
+            Keyword::Post => b"post",
+            Keyword::Exact => b"exact",
+            Keyword::Loop => b"loop",
+            Keyword::Entails => b"entails",
+            Keyword::Iff => b"iff",
+            Keyword::Implies => b"implies",
+            Keyword::Or => b"or",
+            Keyword::And => b"and",
+            Keyword::Until => b"until",
+            Keyword::Unless => b"unless",
+            Keyword::Release => b"release",
+            Keyword::Within => b"within",
+            Keyword::Not => b"not",
+            Keyword::Next => b"next",
+            Keyword::Eventually => b"eventually",
+            Keyword::Always => b"always",
+            Keyword::In => b"in",
+            Keyword::True => b"true",
+            Keyword::False => b"false",
+        }
+    }
+}
+
 // A word that begins a statement, or the text.
 #[tactic(auto, unfolding(crate::specs::Keywords::statement_word))]
 fn statement_word(word: &[u8]) -> Option<Keyword>

@@ -7,6 +7,7 @@ mod name;
 mod range;
 mod space;
 mod state;
+mod value_text;
 mod values;
 
 pub use keyword::{Keyword, keyword_of, law_of_keywords};

@@ -1,7 +1,11 @@
-//! Tables of names, spaces and value sets at the ends of their limits, and that each call that
-//! takes memory can succeed.
+//! Tables of names, spaces and value sets at the ends of their limits, the texts of values, and that
+//! each call that takes memory can succeed.
 
-use crate::{AddRefusal, Name, NameRefusal, Range, Space, State, Values, VarId};
+use crate::{
+    AddRefusal, Keyword, Name, NameRefusal, Range, Space, State, Values, VarId, keyword_of,
+};
+use std::alloc::Global;
+use std::process::Abort;
 use std::test::Fail;
 
 #[test]
@@ -17,7 +21,9 @@ fn names(rt: HostRuntime) -> Result<(), Fail> {
         (b"2door".as_slice(), Some(NameRefusal::NotAName)),
         (b"_door".as_slice(), Some(NameRefusal::NotAName)),
         (b"door-2".as_slice(), Some(NameRefusal::NotAName)),
+        (b"d\xc3\xb6r".as_slice(), Some(NameRefusal::NotAName)),
         (b"always".as_slice(), Some(NameRefusal::NotAName)),
+        (b"Always".as_slice(), None),
     ] {
         assert_eq!(rt; Name::new(rt.alloc(), bytes).err(), refusal, "at {bytes:?}");
     }
@@ -66,8 +72,14 @@ fn variables(rt: HostRuntime) -> Result<(), Fail> {
         let name = Name::new(rt.alloc(), &[b'v', b'a' + index / 8, b'a' + index % 8])?;
         assert_eq!(rt; space.add(name, Range::Bool), Ok(VarId(index)));
     }
-    let name = Name::new(rt.alloc(), b"last")?;
-    assert_eq!(rt; space.add(name, Range::Bool), Err(AddRefusal::TooManyVars));
+    for (name, lo, hi, refusal) in [
+        (b"door".as_slice(), 1, 0, AddRefusal::DuplicateVar),
+        (b"last", 1, 0, AddRefusal::BadRange),
+        (b"last", 0, 1, AddRefusal::TooManyVars),
+    ] {
+        let name = Name::new(rt.alloc(), name)?;
+        assert_eq!(rt; space.add(name, Range::Span { lo, hi }), Err(refusal));
+    }
     assert_eq!(rt; space.count(), 64);
     assert_eq!(rt; space.find(b"door"), Some(VarId(2)));
     assert_eq!(rt; space.find(b"last"), None);
@@ -118,5 +130,77 @@ fn value_sets(rt: HostRuntime) {
             "the others of {set:?} below {size}"
         );
         assert!(rt; set.meet(others).is_empty(), "{set:?} and its others");
+        assert_eq!(rt;
+            set.join(others).0,
+            u64::MAX >> (64 - size) | set.0,
+            "{set:?} or its others"
+        );
+    }
+}
+
+// The text of a value, and of the set of the first and the last value.
+fn texts_of(
+    rt: &impl Abort,
+    alloc: Global,
+    range: &Range,
+    index: u8,
+) -> Result<(Vec<u8>, Vec<u8>), Fail> {
+    let size = range.size();
+    assert!(rt; (index as u64) < size && size <= 64);
+    let (mut value, mut set) = (Vec::new(alloc), Vec::new(alloc));
+    range.put_value(&mut value, index)?;
+    range.put_set(&mut set, Values::none().with(0).with(size as u8 - 1))?;
+    Ok((value, set))
+}
+
+#[test]
+fn texts(rt: HostRuntime) -> Result<(), Fail> {
+    let mut names = Vec::new(rt.alloc());
+    for name in [b"shut".as_slice(), b"ajar", b"open"] {
+        names.push(Name::new(rt.alloc(), name)?)?;
+    }
+    let doors = Range::Names(names);
+    let levels = Range::Span { lo: -2, hi: 61 };
+    let least = i64::MIN;
+    let lowest = Range::Span {
+        lo: least,
+        hi: least,
+    };
+    for (range, index, value, set) in [
+        (
+            &Range::Bool,
+            0,
+            b"false".as_slice(),
+            b"{false, true}".as_slice(),
+        ),
+        (&Range::Bool, 1, b"true", b"{false, true}"),
+        (&doors, 1, b"ajar", b"{shut, open}"),
+        (&levels, 0, b"-2", b"{-2, 61}"),
+        (&levels, 2, b"0", b"{-2, 61}"),
+        (
+            &lowest,
+            0,
+            b"-9223372036854775808",
+            b"{-9223372036854775808}",
+        ),
+    ] {
+        let (value_text, set_text) = texts_of(&rt, rt.alloc(), range, index)?;
+        assert_eq!(rt; value_text.as_slice(), value);
+        assert_eq!(rt; set_text.as_slice(), set);
+    }
+    Ok(())
+}
+
+#[test]
+fn keywords(rt: HostRuntime) {
+    for (keyword, spelling) in [
+        (Keyword::Kaos, b"kaos".as_slice()),
+        (Keyword::Operationalise, b"operationalise"),
+        (Keyword::Dompost, b"dompost"),
+        (Keyword::Unless, b"unless"),
+        (Keyword::False, b"false"),
+    ] {
+        assert_eq!(rt; keyword.spelling(), spelling);
+        assert_eq!(rt; keyword_of(spelling), Some(keyword));
     }
 }

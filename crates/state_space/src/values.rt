@@ -46,6 +46,14 @@ impl Values {
         Values(self.0 & other.0)
     }
 
+    /// What is in one of the sets, or in both.
+    pub fn join(self, other: Values) -> Values
+        ensures value { result.0 ≡ bit_or self.0 other.0 }
+        ensures members { (i : ℕ) → Has result i ↔ (Has self i ⊎ Has other i) }
+    {
+        Values(self.0 | other.0)
+    }
+
     /// The indexes below the size, which is at most 64, that are not in the set.
     pub fn complement(self, size: u8) -> Values
         requires { size ≤ 64 }
