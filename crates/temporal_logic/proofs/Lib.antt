@@ -5,3 +5,4 @@ pub mod Loops
 pub mod Fitting
 pub mod Given
 pub mod Agreement
+pub mod Enclosures

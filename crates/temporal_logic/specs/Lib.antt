@@ -6,3 +6,5 @@ pub mod Traces
 pub mod Rows
 pub mod Lassos
 pub mod Fits
+pub mod Written
+pub mod Tightness

@@ -1,5 +1,5 @@
 -- How deep a formula is, whether it speaks of one position alone, and which variables it names.
-use Rattle.std.specs.Prelude.{ℕ, ◌<◌, ◌+◌, ◌-◌, ◌^◌, min, max, Bool, true, false, ◌&&◌}
+use Rattle.std.specs.Prelude.{ℕ, ◌<◌, ◌+◌, ◌-◌, ◌^◌, min, max, Bool, true, false, ◌&&◌, List, [], ◌∷◌, ◌++◌}
 use Rattle.temporal_logic.specs.Ltl.{Ltl, truth, falsity, flag, compares, among, relates, neg, conj, disj, implies, iff, entails, next, eventually, always, until, unless, release, eventually_within, always_within, until_within, unless_within, release_within}
 
 -- one level more, at most the greatest number of 32 bits
@@ -72,3 +72,29 @@ VariablesBelow n (always_within d a) = VariablesBelow n a
 VariablesBelow n (until_within d a b) = VariablesBelow n a × VariablesBelow n b
 VariablesBelow n (unless_within d a b) = VariablesBelow n a × VariablesBelow n b
 VariablesBelow n (release_within d a b) = VariablesBelow n a × VariablesBelow n b
+
+-- the variables that the formula names, in order, once for each place
+abbrev pub variables_of : Ltl → List ℕ
+variables_of truth = []
+variables_of falsity = []
+variables_of (flag x) = x ∷ []
+variables_of (compares x r v) = x ∷ []
+variables_of (among x set) = x ∷ []
+variables_of (relates x r y) = x ∷ y ∷ []
+variables_of (neg a) = variables_of a
+variables_of (conj a b) = variables_of a ++ variables_of b
+variables_of (disj a b) = variables_of a ++ variables_of b
+variables_of (implies a b) = variables_of a ++ variables_of b
+variables_of (iff a b) = variables_of a ++ variables_of b
+variables_of (entails a b) = variables_of a ++ variables_of b
+variables_of (next a) = variables_of a
+variables_of (eventually a) = variables_of a
+variables_of (always a) = variables_of a
+variables_of (until a b) = variables_of a ++ variables_of b
+variables_of (unless a b) = variables_of a ++ variables_of b
+variables_of (release a b) = variables_of a ++ variables_of b
+variables_of (eventually_within d a) = variables_of a
+variables_of (always_within d a) = variables_of a
+variables_of (until_within d a b) = variables_of a ++ variables_of b
+variables_of (unless_within d a b) = variables_of a ++ variables_of b
+variables_of (release_within d a b) = variables_of a ++ variables_of b

@@ -1,12 +1,15 @@
 //! Formulas, as a writer gives them. Contracts speak of a formula's tree, so that two formulas
 //! that lie in different places of memory can be the same.
 
-ghost use Rattle.std.specs.Prelude.{◌≡◌, ◌↔◌, IsTrue, IfOk};
-ghost use Rattle.temporal_logic.specs.Shapes.{depth_of, is_state_of};
-ghost use Rattle.temporal_logic.specs.Trees.{tree_of};
+ghost use Rattle.std.specs.Prelude.{◌≡◌, ℕ, ◌++◌, ◌↔◌, Contains, IsTrue, IfOk};
+ghost use Rattle.state_space.specs.Members.{Has};
+ghost use Rattle.temporal_logic.specs.Shapes.{depth_of, is_state_of, variables_of, VariablesBelow};
+ghost use Rattle.temporal_logic.specs.Trees.{relation_of, tree_of};
+ghost use Rattle.temporal_logic.specs.Truth.{Stands};
 
+use source_sink::Memory;
 use state_space::{Values, VarId};
-use std::alloc::{AllocError, Global};
+use std::alloc::Global;
 
 /// A comparison of value indexes.
 #[derive(Clone, Copy, PartialEq, Eq, PartialOrd, Ord, Debug)]
@@ -23,6 +26,22 @@ pub enum Cmp {
     Gt,
     /// The first is above the second, or the same.
     Ge,
+}
+
+impl Cmp {
+    /// Whether two value indexes compare so.
+    pub fn stands(self, a: u8, b: u8) -> bool
+        ensures { IsTrue result ↔ Stands (relation_of self) a b }
+    {
+        match self {
+            Cmp::Eq => a == b,
+            Cmp::Ne => a != b,
+            Cmp::Lt => a < b,
+            Cmp::Le => a <= b,
+            Cmp::Gt => a > b,
+            Cmp::Ge => a >= b,
+        }
+    }
 }
 
 /// A formula of linear temporal logic. A bound counts steps from the formula's own position, and
@@ -124,6 +143,38 @@ impl Formula {
         }
     }
 
+    /// The variables that the formula names, which are below 64.
+    #[cycle(vars)]
+    pub fn vars(&self) -> Values
+        requires { VariablesBelow 64 (tree_of self.now) }
+        ensures members { (i : ℕ) → Has result i ↔ Contains (variables_of (tree_of self.now)) i }
+    {
+        match self {
+            Formula::True | Formula::False => Values::none(),
+            Formula::Flag(x) | Formula::Is(x, _, _) | Formula::Among(x, _) => {
+                Values::none().with(x.0)
+            }
+            Formula::Same(x, _, y) => Values::none().with(x.0).with(y.0),
+            Formula::Not(a)
+            | Formula::Next(a)
+            | Formula::Eventually(a)
+            | Formula::Always(a)
+            | Formula::EventuallyWithin(_, a)
+            | Formula::AlwaysWithin(_, a) => a.vars(),
+            Formula::And(a, b)
+            | Formula::Or(a, b)
+            | Formula::Implies(a, b)
+            | Formula::Iff(a, b)
+            | Formula::Entails(a, b)
+            | Formula::Until(a, b)
+            | Formula::Unless(a, b)
+            | Formula::Release(a, b)
+            | Formula::UntilWithin(_, a, b)
+            | Formula::UnlessWithin(_, a, b)
+            | Formula::ReleaseWithin(_, a, b) => vars_of_both(a, b),
+        }
+    }
+
     /// Whether the two are the same formula, wherever they lie in memory.
     pub fn is_same(&self, other: &Formula) -> bool
         ensures same { IsTrue result ↔ (tree_of self.now ≡ tree_of other.now) }
@@ -167,7 +218,7 @@ impl Formula {
 
     /// A formula that is the same as this one. Only memory can be wanting.
     #[cycle(clone)]
-    pub fn clone(&self, alloc: Global) -> Result<Formula, AllocError>
+    pub fn clone(&self, alloc: Global) -> Result<Formula, Memory>
         ensures same { IfOk result (λ f. tree_of f ≡ tree_of self.now) }
     {
         match self {
@@ -204,9 +255,19 @@ impl Formula {
     }
 }
 
+// The variables that one of the two names, or both.
+#[cycle(vars)]
+fn vars_of_both(a: &Formula, b: &Formula) -> Values
+    requires first { VariablesBelow 64 (tree_of a.now) }
+    requires second { VariablesBelow 64 (tree_of b.now) }
+    ensures members { (i : ℕ) → Has result i ↔ Contains (variables_of (tree_of a.now) ++ variables_of (tree_of b.now)) i }
+{
+    a.vars().join(b.vars())
+}
+
 // A clone of an operand, in a place of its own.
 #[cycle(clone)]
-fn boxed(alloc: Global, formula: &Formula) -> Result<Box<Formula>, AllocError>
+fn boxed(alloc: Global, formula: &Formula) -> Result<Box<Formula>, Memory>
     ensures same { IfOk result (λ f. tree_of f.value ≡ tree_of formula.now) }
 {
     Ok(Box::new(alloc, formula.clone(alloc)?)?)
