@@ -17,7 +17,9 @@ pub mod TraceLaws
 pub mod StatementLaws
 pub mod TextLaws
 pub mod TokenCounts
+pub mod TokenPlaces
 pub mod Texts
+pub mod LevelCounts
 pub mod LineLaws
 pub mod WrittenLevels
 pub mod WrittenLeaves
@@ -26,5 +28,6 @@ pub mod WrittenStatements
 pub mod LaidTokens
 pub mod ReadTokens
 pub mod WritableTokens
+pub mod SmallNumbers
 pub mod WrittenTexts
 pub mod OperatorCounts

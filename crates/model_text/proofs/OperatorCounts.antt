@@ -1,6 +1,6 @@
 -- What a text's statements are written with has no more operators than the text.
-use Rattle.std.proofs.Common.{◌≡◌, ℕ, ◌+◌, ◌≤◌, Bool, true, false, List, [], ◌∷◌, ◌++◌, Option, Some, None, refl, sym, ap, subst, ◌∙◌, append_assoc, arith}
-use Rattle.std.specs.Prelude.{max, nat_le, ℤ, pos, negsuc, map, flat_map, decimal, if◌then◌else◌}
+use Rattle.std.proofs.Common.{◌≡◌, ℕ, ◌+◌, ◌≤◌, Bool, true, false, List, [], ◌∷◌, ◌++◌, Option, Some, refl, sym, ap, subst, ◌∙◌, append_assoc, arith}
+use Rattle.std.specs.Prelude.{max, nat_le, pos, negsuc, map, flat_map, if◌then◌else◌}
 use Rattle.state_space.specs.declared.keyword.Keyword.{Keyword}
 use Rattle.state_space.specs.declared.keyword.Keyword.TheVariants as keywords
 use Rattle.state_space.specs.Ranges.{RangeForm}
@@ -12,9 +12,10 @@ use Rattle.model_text.specs.Tokens.{TokenForm, keyword, mark, name, number, stra
 use Rattle.model_text.specs.RawTrees.{WrittenValue, a_word, a_number, a_truth, RawTree, neg, next, eventually, always, eventually_within, always_within, conj, disj, implies, iff, entails, until, unless, release, until_within, unless_within, release_within}
 use Rattle.model_text.specs.Leaves.{cut_name, number_value, bound_value, value_of, relation_of}
 use Rattle.model_text.specs.Statements.{Setting, StatementForm}
-use Rattle.model_text.specs.FormulaGrammar.{Level, whole_level, iff_level, implies_level, or_level, and_level, tempo_level, prefix_level, primary_level, SpellsValues, one_value, more_values, SpellsFormula, a_truth, a_falsity, in_parentheses, a_flag, a_comparison, a_choice, a_primary, a_negation, a_next, an_eventually, an_always, an_eventually_within, an_always_within, a_prefix, an_until, an_unless, a_release, an_until_within, an_unless_within, a_release_within, a_tempo, a_conjunction, a_conjunct, a_disjunction, a_disjunct, an_implication, a_side, an_equivalence, a_whole, an_entailment}
-use Rattle.model_text.specs.Writing.{number_token, value_token, sign_of, tightness, enclosed, values_tokens, within_tokens, formula_tokens, separated, names_tokens, whole_tokens, range_tokens, part_tokens, pattern_tokens, exact_tokens, role_token, set_tokens, state_tokens, statement_tokens}
-use Rattle.model_text.specs.Grammar.{is_operator, is_semicolon, most_operators, SpellsNames, one_name, more_names, SpellsPart, no_part, a_part, SpellsPattern, no_pattern, a_pattern, SpellsExact, not_exact, is_exact, SpellsRole, a_pre, a_trig, a_post, SpellsRange, a_boolean, an_enumeration, a_span, SpellsSets, one_set, more_sets, SpellsState, an_empty_state, a_state, SpellsStates, no_state, one_more_state, SpellsStatement, a_variable, a_domain, a_rule, a_goal, an_obstacle, a_refinement, an_obstruction, a_conflict, an_agent, an_assignment, an_expectation, an_operation, a_requirement, an_operationalisation, a_trace, SpellsStatements, no_statement, one_more, SpellsText, a_text}
+use Rattle.model_text.specs.FormulaGrammar.{Level, whole_level, iff_level, implies_level, or_level, and_level, tempo_level, prefix_level, SpellsValues, one_value, more_values, SpellsFormula, a_truth, a_falsity, in_parentheses, a_flag, a_comparison, a_choice, a_primary, a_negation, a_next, an_eventually, an_always, an_eventually_within, an_always_within, a_prefix, an_until, an_unless, a_release, an_until_within, an_unless_within, a_release_within, a_tempo, a_conjunction, a_conjunct, a_disjunction, a_disjunct, an_implication, a_side, an_equivalence, a_whole, an_entailment}
+use Rattle.model_text.specs.Writing.{value_token, sign_of, tightness, enclosed, values_tokens, within_tokens, formula_tokens, separated, names_tokens, whole_tokens, range_tokens, part_tokens, pattern_tokens, exact_tokens, role_token, set_tokens, state_tokens, statement_tokens}
+use Rattle.model_text.specs.Limits.{is_operator, is_semicolon, most_operators}
+use Rattle.model_text.specs.Grammar.{SpellsNames, one_name, more_names, SpellsPart, no_part, a_part, SpellsPattern, no_pattern, a_pattern, SpellsExact, not_exact, is_exact, SpellsRole, a_pre, a_trig, a_post, SpellsRange, a_boolean, an_enumeration, a_span, SpellsSets, one_set, more_sets, SpellsState, an_empty_state, a_state, SpellsStates, no_state, one_more_state, SpellsStatement, a_variable, a_domain, a_rule, a_goal, an_obstacle, a_refinement, an_obstruction, a_conflict, an_agent, an_assignment, an_expectation, an_operation, a_requirement, an_operationalisation, a_trace, SpellsStatements, no_statement, one_more, SpellsText, a_text}
 use Rattle.model_text.specs.Lines.{own_level, ended_tokens}
 use Rattle.model_text.proofs.WrittenFormulas.{more_is}
 use Rattle.model_text.proofs.WrittenStatements.{more_names_is, part_is, more_sets_is}

@@ -1,5 +1,5 @@
 -- The tokens of bytes have names that are no keywords.
-use Rattle.std.proofs.Common.{◌≡◌, ℕ, ◌+◌, Bool, true, false, List, [], ◌∷◌, ◌++◌, Option, Some, None, refl, sym, ap, subst, ◌∙◌}
+use Rattle.std.proofs.Common.{◌≡◌, ℕ, ◌+◌, Bool, true, false, List, [], ◌∷◌, ◌++◌, Option, Some, None, refl}
 use Rattle.std.specs.Prelude.{◌==◌, ◌&&◌, ◌||◌, map, if◌then◌else◌}
 use Rattle.std.specs.List.{list_all}
 use Rattle.std.specs.Char.{is_ascii_digit}
@@ -9,7 +9,7 @@ use Rattle.state_space.specs.Names.{is_word_byte, has_name_form}
 use Rattle.model_text.specs.declared.token.Mark.{Mark}
 use Rattle.model_text.specs.declared.token.Mark.TheVariants.{Below, Above}
 use Rattle.model_text.specs.Tokens.{TokenForm, keyword, mark, name, number, stray, bad_byte, Placed}
-use Rattle.model_text.specs.Lexing.{Before, between, comment, within, behind, plain_word, word_form, word_token, negative_word, lone_form, ended, single_of, alone_form, alone, is_blank, may_go_on, next, pair_of, behind_emitted, emitted, tokens_from, tokens_of, forms_of}
+use Rattle.model_text.specs.Lexing.{Before, between, comment, within, behind, word_form, word_token, negative_word, lone_form, ended, single_of, alone_form, alone, is_blank, may_go_on, next, pair_of, behind_emitted, emitted, tokens_from, tokens_of, forms_of}
 
 -- each token of a list has a property
 abbrev pub AllOf : (TokenForm → Type 0) → List TokenForm → Type 0

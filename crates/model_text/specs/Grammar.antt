@@ -1,4 +1,4 @@
--- Which tokens spell which statements, and when a text is readable:
+-- Which tokens spell which statements:
 --   text      = "kaos" "1" ";" { statement ";" }
 --   statement = "var" name ":" range
 --             | "domain" name ":" formula
@@ -20,12 +20,11 @@
 --   state     = "{" [ set { "," set } ] "}"
 --   set       = name "=" value
 -- The levels formula and iff are those of FormulaGrammar.
-use Rattle.std.specs.Prelude.{◌≡◌, ℕ, ◌+◌, ◌≤◌, max, pos, Bool, true, false, List, [], ◌∷◌, ◌++◌, length, nat_le, Option, Some, None, if◌then◌else◌}
-use Rattle.std.specs.List.{list_all}
+use Rattle.std.specs.Prelude.{◌≡◌, ℕ, pos, Bool, true, false, List, [], ◌∷◌, ◌++◌, Option, Some, None}
 use Rattle.state_space.specs.declared.keyword.Keyword.{Keyword}
 use Rattle.state_space.specs.declared.keyword.Keyword.TheVariants as keywords
 use Rattle.state_space.specs.Ranges.{RangeForm, truth_values, named, span}
-use Rattle.model_text.specs.declared.token.Mark.TheVariants.{Semicolon, Colon, Comma, Equal, Dots, OpenParenthesis, OpenBrace, CloseBrace}
+use Rattle.model_text.specs.declared.token.Mark.TheVariants.{Semicolon, Colon, Comma, Equal, Dots, OpenBrace, CloseBrace}
 use Rattle.model_text.specs.declared.statement.Role.{Role}
 use Rattle.model_text.specs.declared.statement.Role.TheVariants as roles
 use Rattle.model_text.specs.Tokens.{TokenForm, keyword, mark, name, number}
@@ -118,43 +117,3 @@ pub data SpellsText : List TokenForm → List StatementForm → Type 0 where
 -- these bytes spell this list of statements
 abbrev pub Spells : List ℕ → List StatementForm → Type 0
 Spells bytes statements = SpellsText (forms_of bytes) statements
-
--- an operator or an open parenthesis
-abbrev pub is_operator : TokenForm → Bool
-is_operator (mark OpenParenthesis) = true
-is_operator (keyword keywords.Entails) = true
-is_operator (keyword keywords.Iff) = true
-is_operator (keyword keywords.Implies) = true
-is_operator (keyword keywords.Or) = true
-is_operator (keyword keywords.And) = true
-is_operator (keyword keywords.Until) = true
-is_operator (keyword keywords.Unless) = true
-is_operator (keyword keywords.Release) = true
-is_operator (keyword keywords.Not) = true
-is_operator (keyword keywords.Next) = true
-is_operator (keyword keywords.Eventually) = true
-is_operator (keyword keywords.Always) = true
-is_operator _ = false
-
-abbrev pub is_semicolon : TokenForm → Bool
-is_semicolon (mark Semicolon) = true
-is_semicolon _ = false
-
--- the greatest number of operators between two semicolons or ends of the text, where some stand already
-unfoldable pub most_operators : ℕ → List TokenForm → ℕ
-most_operators count [] = count
-most_operators count (t ∷ ts) =
-    if is_semicolon t then max count (most_operators 0 ts) else
-    if is_operator t then most_operators (count + 1) ts else
-    most_operators count ts
-
--- a name of at most 40 bytes, or no name
-abbrev pub is_short : TokenForm → Bool
-is_short (name x) = nat_le (length x) 40
-is_short _ = true
-
--- these bytes spell this list of statements, and pass no limit of the text
-pub record IsReadable (bytes : List ℕ) (statements : List StatementForm) : Type 0 where
-  pub spelled : Spells bytes statements
-  pub few_operators : most_operators 0 (forms_of bytes) ≤ 500
-  pub short_names : list_all is_short (forms_of bytes) ≡ true

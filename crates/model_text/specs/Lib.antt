@@ -15,3 +15,5 @@ pub mod Writing
 pub mod Layout
 pub mod Lines
 pub mod Writable
+pub mod Limits
+pub mod Readability

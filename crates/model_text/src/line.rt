@@ -5,7 +5,7 @@ ghost use Rattle.model_text.specs.Tokens.{keyword, mark, name as name_form};
 ghost use Rattle.model_text.specs.Writing.{number_token};
 ghost use Rattle.model_text.specs.Lines.{LineForm, with_bytes, with_token};
 
-use crate::spelling::{closes_up, holds_on, sign_bytes, spelling};
+use crate::sign::{closes_up, holds_on, sign_bytes};
 use crate::token::Mark;
 use itoa::Buffer;
 use source_sink::Memory;
@@ -56,7 +56,7 @@ impl Line {
     pub(crate) fn keyword(&mut self, word: Keyword) -> Result<(), Memory>
         ensures { OnOk result (self.new ≡ with_token self.old (keyword word)) }
     {
-        self.token(spelling(word), false, false)
+        self.token(word.spelling(), false, false)
     }
 
     /// A sign behind what is written.

@@ -26,6 +26,13 @@ fn magnitude(digits: &[u8]) -> u64
 }
 
 impl<'t> Numeral<'t> {
+    /// The magnitude, which is 1,000,000,001 where it is over 1,000,000,000.
+    pub(crate) fn magnitude(&self) -> u64
+        ensures { result ≡ magnitude self.now.digits.now }
+    {
+        magnitude(self.digits)
+    }
+
     /// The value, which is beyond 1,000,000,000 by one where it is beyond it.
     #[tactic(auto, unfolding(crate::specs::Leaves::number_value))]
     pub(crate) fn value(&self) -> i64
@@ -46,6 +53,7 @@ impl<'t> Numeral<'t> {
         }
         value.min(101) as u8
     }
+
     /// Whether the value is 1.
     pub(crate) fn is_one(&self) -> bool
         ensures { result ≡ is_one self.now.negative self.now.digits.now }

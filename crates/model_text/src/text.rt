@@ -1,25 +1,33 @@
-//! The statements of a text, for whoever is given bytes: `Ok` exactly for readable bytes, with the list that they spell.
+//! The statements of a text, for whoever is given bytes: `Ok` exactly for readable bytes, with the list that they spell, and else the
+//! first cause for which they are refused.
 
-ghost use Rattle.std.specs.Prelude.{◌≡◌, ◌⊎◌, ◌+◌, ◌*◌, ◌≤◌, ℕ, List, length, vec_len, IfOk, IfErr, IsErrOf};
+#[cfg(test)]
+mod tests;
+
+ghost use Rattle.std.specs.Prelude.{◌≡◌, ◌⊎◌, ◌+◌, ◌*◌, ◌-◌, ◌≤◌, ℕ, List, length, map, vec_len, slice_index_or, IfOk, IfErr};
+ghost use Rattle.model_text.specs.Tokens.{form_of, all_placed};
 ghost use Rattle.model_text.specs.Statements.{StatementForm, statements_of};
-ghost use Rattle.model_text.specs.Grammar.{Spells, IsReadable};
-ghost use Rattle.model_text.specs.declared.text.TextRefusal.TheVariants.{NotBuilt, Memory as TextMemory};
+ghost use Rattle.model_text.specs.Grammar.{Spells};
+ghost use Rattle.model_text.specs.Readability.{IsReadable, is_bad as is_bad_form, first_bad, Refuses};
+ghost use Rattle.model_text.specs.declared.text.TextRefusal.TheVariants.{Memory as TextMemory};
 
 use crate::cursor::{Cursor, Fault};
 use crate::lexer::lex;
-use crate::limits::{are_names_short, most_operators};
+use crate::limits::{LimitKind, MOST_OPERATORS, most_operators, passed_limit};
 use crate::reader::statements;
 use crate::statement::RawModel;
+use crate::token::{Kind, Token};
 use std::alloc::{AllocError, Global};
 
-/// Operators and open parentheses that a statement may have.
-const MOST_OPERATORS: usize = 500;
-
-/// Why a text has no statements.
+/// Why a text has no statements. Places are of bytes, from 0.
 #[derive(Clone, Copy, Debug, PartialEq, Eq)]
 pub enum TextRefusal {
-    /// A statement, counted from 1, has a form that is not built yet. This is so far the one refusal of a text.
-    NotBuilt(u32),
+    /// A byte that no token has stands there, outside comments. It is the first one.
+    BadByte(u64),
+    /// The text passes a limit.
+    Limit(LimitKind),
+    /// The bytes are no statements. The place is not beyond the length of the text.
+    Syntax(u64),
     /// Memory ran out.
     Memory,
 }
@@ -32,28 +40,72 @@ impl From<AllocError> for TextRefusal {
     }
 }
 
-/// The statements that the bytes spell.
-/// `NotBuilt(1)` comes exactly where the bytes are not readable.
+fn is_bad(kind: Kind<'_>) -> bool
+    ensures { result ≡ is_bad_form (form_of kind.entry) }
+{
+    matches!(kind, Kind::BadByte)
+}
+
+// The place of the first byte that no token has.
+fn bad_byte(tokens: &[Token<'_>]) -> Option<usize>
+    ensures { result ≡ first_bad (all_placed tokens.now) }
+{
+    for token in tokens {
+        if is_bad(token.kind) {
+            return Some(token.at);
+        }
+    }
+    None
+}
+
+// The place of the token that so many stand behind, itself among them, or the end where it is none.
+fn place_of(tokens: &[Token<'_>], left: usize, end: usize) -> usize
+    ensures { result ≡ slice_index_or (map (λ t. t.at) (all_placed tokens.now)) (length tokens.now - left) end }
+{
+    match tokens.get(tokens.len().saturating_sub(left)) {
+        Some(token) => token.at,
+        None => end,
+    }
+}
+
+/// The statements that the bytes spell, for texts of any length. Refusals come in this order: `BadByte`, with the place of the first
+/// byte outside comments that no token has; `Limit(Operators)`; `Syntax`, where the bytes spell no statements; then the other limits in
+/// their order. `Memory` may come at any time.
 pub fn read_model(alloc: Global, bytes: &[u8]) -> Result<RawModel, TextRefusal>
-    // What is read is spelled so.
+    // What is read is spelled so, and passes no limit.
     ensures found { IfOk result (λ raw. IsReadable bytes.now (statements_of raw)) }
     // What is spelled so is read.
     ensures only { (ss : List StatementForm) → IsReadable bytes.now ss → IfOk result (λ raw. statements_of raw ≡ ss) }
-    ensures not_built { IsErrOf result (NotBuilt 1) → (ss : List StatementForm) → IsReadable bytes.now ss → ⊥ }
+    // What is refused is refused for its first cause.
+    ensures refused { IfErr result (λ e. (e ≡ TextMemory) ⊎ Refuses bytes.now e) }
     ensures count { IfOk result (λ raw. vec_len raw.statements ≤ 3 * length bytes.now + 2) }
-    ensures no_other { IfErr result (λ e. (e ≡ NotBuilt 1) ⊎ (e ≡ TextMemory)) }
 {
     let tokens = lex(alloc, bytes)?;
-    if most_operators(&tokens) > MOST_OPERATORS || !are_names_short(&tokens) {
-        return Err(TextRefusal::NotBuilt(1));
+    if let Some(at) = bad_byte(&tokens) {
+        return Err(TextRefusal::BadByte(at as u64));
+    }
+    if most_operators(&tokens) > MOST_OPERATORS {
+        return Err(TextRefusal::Limit(LimitKind::Operators));
     }
     let mut cursor = Cursor { rest: &tokens };
-    match statements(alloc, &mut cursor) {
-        Ok(raw) => Ok(raw),
-        Err(Fault::Syntax) => Err(TextRefusal::NotBuilt(1)),
-        Err(Fault::Memory) => Err(TextRefusal::Memory),
+    let raw = match statements(alloc, &mut cursor) {
+        Ok(raw) => raw,
+        Err(Fault::Syntax) => {
+            let at = place_of(&tokens, cursor.rest.len(), bytes.len());
+            return Err(TextRefusal::Syntax(at as u64));
+        }
+        Err(Fault::Memory) => return Err(TextRefusal::Memory),
+    };
+    match passed_limit(&tokens, &raw) {
+        Some(kind) => Err(TextRefusal::Limit(kind)),
+        None => Ok(raw),
     }
 }
+
+/// A text that is refused is not readable, as whatever list of statements.
+pub fn law_of_refusals()
+    ensures { (bytes : List ℕ) (e : TextRefusal) (ss : List StatementForm) → Refuses bytes e → IsReadable bytes ss → ⊥ }
+{}
 
 /// No text spells two lists of statements.
 pub fn law_of_spelling()

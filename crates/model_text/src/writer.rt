@@ -10,7 +10,7 @@ ghost use Rattle.model_text.specs.FormulaGrammar.{whole_level, iff_level};
 ghost use Rattle.model_text.specs.Tokens.{keyword, mark, name as name_form};
 ghost use Rattle.model_text.specs.declared.token.Mark.TheVariants.{Colon};
 ghost use Rattle.model_text.specs.Statements.{StatementForm, statement_of, statements_of, rule, conflict, agent, operation, requirement};
-ghost use Rattle.model_text.specs.Grammar.{IsReadable};
+ghost use Rattle.model_text.specs.Readability.{IsReadable};
 ghost use Rattle.model_text.specs.Writing.{whole_tokens, formula_tokens, statement_tokens};
 ghost use Rattle.model_text.specs.Layout.{written_statement, written_text};
 ghost use Rattle.model_text.specs.Lines.{with_tokens};

@@ -64,3 +64,37 @@ fn spaces(rt: HostRuntime) -> Result<(), Fail> {
     }
     Ok(())
 }
+
+// A statement of each form but the version, as it is written.
+#[test]
+fn forms(rt: HostRuntime) -> Result<(), Fail> {
+    let alloc = rt.alloc();
+    for text in [
+        "var a: bool;",
+        "var m: {u, v};",
+        "var n: -2..5;",
+        "domain d: always a;",
+        "rule r: a iff b entails eventually c;",
+        "goal g: a entails b;",
+        "obstacle o: eventually not a;",
+        "refine g by h, k;",
+        "refine g by h, k using milestone;",
+        "obstruct g by o;",
+        "conflict c: g, h boundary a and b;",
+        "agent p;",
+        "agent p monitors a, b controls c;",
+        "assign g to p;",
+        "expect g of p;",
+        "operation o by p dompre a dompost not a;",
+        "require r on o pre a;",
+        "require r on o trig a;",
+        "require r on o post a;",
+        "operationalise g by r, s;",
+        "operationalise g by r exact;",
+        "trace t: {a = true, n = -3} {} loop {m = u};",
+    ] {
+        let expected = format!(in alloc; "kaos 1;\n{text}\n")?;
+        assert_eq!(rt; rewritten(alloc, text)?, expected);
+    }
+    Ok(())
+}

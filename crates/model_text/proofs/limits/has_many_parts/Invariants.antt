@@ -1,0 +1,9 @@
+use Rattle.std.proofs.Common.{◌≡◌, drop}
+use Rattle.std.specs.List.{list_any}
+use Rattle.model_text.specs.Statements.{all_statements}
+use Rattle.model_text.specs.Limits.{has_many_parts}
+use Rattle.model_text.proofs.limits.has_many_parts.Given as goal
+
+abbrev pub invariant-loop-statement : goal.invariant-loop-statement
+invariant-loop-statement l =
+    list_any has_many_parts (all_statements (drop l.statement-index l.statements)) ≡ list_any has_many_parts (all_statements l.statements)
