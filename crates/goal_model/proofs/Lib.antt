@@ -1,0 +1,15 @@
+pub mod Choices
+pub mod RangeTests
+pub mod WrittenParts
+pub mod StateParts
+pub mod FittingFormulas
+pub mod FittingStates
+pub mod DraftModels
+pub mod Making
+pub mod Cycles
+pub mod Finishing
+pub mod Resolving
+pub mod Adding
+pub mod TraceParts
+pub mod ReachMarks
+pub mod ReachSearch

@@ -1,0 +1,9 @@
+pub mod Models
+pub mod Names
+pub mod ValueIndexes
+pub mod Formulas
+pub mod States
+pub mod Reachability
+pub mod Marking
+pub mod Resolution
+pub mod Judging
