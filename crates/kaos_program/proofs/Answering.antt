@@ -1,43 +1,52 @@
 -- From what the parts answer to what is answered to the bytes.
-use Rattle.std.proofs.Common.{◌≡◌, ℕ, ◌≤◌, ◌⊎◌, List, length, Some, None, Result, Ok, Err, sym, subst, ⊎_elim}
-use Rattle.std.specs.Prelude.{IfOk}
-use Rattle.source_sink.specs.declared.fault.Memory.{Memory}
+use Rattle.std.proofs.Common.{◌≡◌, ℕ, ◌≤◌, ◌⊎◌, Bool, List, length, Some, None, refl, ⊎_elim}
+use Rattle.std.specs.Prelude.{codes, Option}
 use Rattle.model_text.specs.declared.text.TextRefusal.{TextRefusal}
 use Rattle.model_text.specs.declared.text.TextRefusal.TheVariants as texts
 use Rattle.model_text.specs.Statements.{StatementForm}
-use Rattle.model_text.specs.Grammar.{IsReadable}
-use Rattle.kaos_program.specs.declared.answer.Answer.{Answer}
+use Rattle.model_text.specs.Readability.{IsReadable, Refuses}
+use Rattle.goal_model.specs.declared.resolution.ModelRefusal.{ModelRefusal}
+use Rattle.goal_model.specs.declared.resolution.ModelRefusal.TheVariants as models
+use Rattle.goal_model.specs.Models.{ModelForm}
+use Rattle.goal_model.specs.Resolution.{RefusesModel}
+use Rattle.kaos_program.specs.declared.command.Command.{Command}
+use Rattle.kaos_program.specs.declared.command.Command.TheVariants.{Check, Trace}
 use Rattle.kaos_program.specs.declared.report.Report.{Report}
-use Rattle.kaos_program.specs.declared.resolution.ModelRefusal.{ModelRefusal}
-use Rattle.kaos_program.specs.declared.resolution.ModelRefusal.TheVariants as models
-use Rattle.kaos_program.specs.Models.{ModelForm}
-use Rattle.kaos_program.specs.Resolution.{IsModel}
+use Rattle.kaos_program.specs.Undecided.{first_undecided}
 use Rattle.kaos_program.specs.Reports.{Reports, status_of}
-use Rattle.kaos_program.specs.Texts.{not_built_text, report_text}
-use Rattle.kaos_program.specs.Answering.{IsAccepted, Answers, a_refusal, a_report}
+use Rattle.kaos_program.specs.Truths.{AreTruths, status_of_truths}
+use Rattle.kaos_program.specs.Texts.{text_refusal, model_refusal, statement_refusal, report_text, truths_text}
+use Rattle.kaos_program.specs.Answering.{IsAccepted, IsRefused, a_text, its_statements, Answers, a_refusal, an_undecided_statement, a_report, truths}
 
-abbrev IsNotBuilt : Answer → Type 0
-IsNotBuilt a = (a.status ≡ 2) × (a.report ≡ None) × (a.output.items ≡ not_built_text)
+-- a cause that is not want of memory
+pub text_cause : (bytes : List ℕ) (e : TextRefusal) → (e ≡ texts.Memory) ⊎ Refuses bytes e → (e ≡ texts.Memory → ⊥) → Refuses bytes e
+text_cause bytes e either other = ⊎_elim (λ h. absurd (other h)) (λ h. h) either
 
-refusal_answers : (bytes : List ℕ) (r : Result Answer Memory) → length bytes ≤ 1048576 → ((m : ModelForm) → IsAccepted bytes m → ⊥) → IfOk r IsNotBuilt → IfOk r (λ a. Answers bytes a.status a.report a.output.items)
-refusal_answers bytes (Ok a) le none h = rw (h.0, h.1, h.2) (a_refusal le none)
-refusal_answers bytes (Err e) le none h = tt
+pub model_cause : (ss : List StatementForm) (e : ModelRefusal) → (e ≡ models.Memory) ⊎ RefusesModel ss e → (e ≡ models.Memory → ⊥) → RefusesModel ss e
+model_cause ss e either other = ⊎_elim (λ h. absurd (other h)) (λ h. h) either
 
-pub not_readable : (bytes : List ℕ) (r : Result Answer Memory) → length bytes ≤ 1048576 → ((ss : List StatementForm) → IsReadable bytes ss → ⊥) → IfOk r IsNotBuilt → IfOk r (λ a. Answers bytes a.status a.report a.output.items)
-not_readable bytes r le none h = refusal_answers bytes r le (λ m a. none a.statements a.readable) h
+pub text_line : (bytes : List ℕ) (e : TextRefusal) (line : List ℕ) → length bytes ≤ 1048576 → Refuses bytes e → line ≡ text_refusal e → IsRefused bytes line
+text_line bytes e line size cause is = rw is (a_text e size cause)
 
-pub no_model_made : (bytes : List ℕ) (ss : List StatementForm) (r : Result Answer Memory) → length bytes ≤ 1048576 → ((rs : List StatementForm) → IsReadable bytes rs → ss ≡ rs) → ((m : ModelForm) → IsModel ss m → ⊥) → IfOk r IsNotBuilt
-    → IfOk r (λ a. Answers bytes a.status a.report a.output.items)
-no_model_made bytes ss r le only none h =
-    refusal_answers bytes r le (λ m a. none m (subst (λ (rs : List StatementForm). IsModel rs m) (sym (only a.statements a.readable)) a.made)) h
+pub model_line : (bytes : List ℕ) (ss : List StatementForm) (e : ModelRefusal) (line : List ℕ) → length bytes ≤ 1048576 → IsReadable bytes ss → RefusesModel ss e → line ≡ model_refusal e → IsRefused bytes line
+model_line bytes ss e line size read cause is = rw is (its_statements ss e size read cause)
 
-pub reported : (bytes : List ℕ) (ss : List StatementForm) (m : ModelForm) (r : Report) (status : ℕ) (out : List ℕ) → length bytes ≤ 1048576 → IsReadable bytes ss → IsModel ss m → Reports m r → status ≡ status_of r → out ≡ report_text m.names r
-    → Answers bytes status (Some r) out
-reported bytes ss m r status out le readable made reports s o =
-    rw (s, o) (a_report m r le (record { statements = ss; readable = readable; made = made }) reports)
+pub undecided : (bytes : List ℕ) (ss : List StatementForm) (m : ModelForm) (number status : ℕ) (report : Option Report) (out : List ℕ) → IsAccepted bytes ss m → first_undecided 0 1 ss ≡ Some number → status ≡ 2 → report ≡ None → out ≡ statement_refusal number (codes "NotBuilt")
+    → Answers bytes Check status report out
+undecided bytes ss m number status report out a first s r o = rw (s, r, o) (an_undecided_statement ss m number a first)
 
-pub one_text_refusal : (e : TextRefusal) (n : ℕ) → e ≡ texts.NotBuilt n → (e ≡ texts.NotBuilt 1) ⊎ (e ≡ texts.Memory) → e ≡ texts.NotBuilt 1
-one_text_refusal e n is either = ⊎_elim (λ h. h) (λ h. absurd cc) either
+pub reported : (bytes : List ℕ) (ss : List StatementForm) (m : ModelForm) (r : Report) (status : ℕ) (out : List ℕ) → IsAccepted bytes ss m → first_undecided 0 1 ss ≡ None → Reports m r → status ≡ status_of r → out ≡ report_text m.names r
+    → Answers bytes Check status (Some r) out
+reported bytes ss m r status out a decided reports s o = rw (s, o) (a_report ss m r a decided reports)
 
-pub one_model_refusal : (e : ModelRefusal) (n : ℕ) → e ≡ models.NotBuilt n → (e ≡ models.NotBuilt 1) ⊎ (e ≡ models.Memory) → e ≡ models.NotBuilt 1
-one_model_refusal e n is either = ⊎_elim (λ h. h) (λ h. absurd cc) either
+pub traced : (bytes : List ℕ) (ss : List StatementForm) (m : ModelForm) (rows : List (List Bool)) (status : ℕ) (out : List ℕ) → IsAccepted bytes ss m → AreTruths m rows → status ≡ status_of_truths rows → out ≡ truths_text m rows
+    → Answers bytes Trace status None out
+traced bytes ss m rows status out a right s o = rw (s, o) (truths ss m rows a right)
+
+-- an option that is no value
+pub none_else : {A : Type 0} (o : Option A) → ((x : A) → o ≡ Some x → ⊥) → o ≡ None
+none_else None other = refl
+none_else (Some x) other = absurd (other x refl)
+
+pub refused_line : (command : Command) (bytes line : List ℕ) (status : ℕ) (report : Option Report) (out : List ℕ) → IsRefused bytes line → status ≡ 2 → report ≡ None → out ≡ line → Answers bytes command status report out
+refused_line command bytes line status report out refused s r o = rw (s, r, o) (a_refusal command line refused)

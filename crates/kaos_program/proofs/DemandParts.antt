@@ -3,10 +3,10 @@ use Rattle.std.proofs.Common.{◌≡◌, ℕ, ◌+◌, ◌<◌, List, [], ◌∷
 use Rattle.std.specs.Prelude.{slice_index_or}
 use Rattle.std.proofs.lemmas.List.{get_or-map, length-map, map-append, take_more}
 use Rattle.std.proofs.lemmas.List.Elements.{All-get_or}
-use Rattle.kaos_program.specs.declared.model.Link as code
-use Rattle.kaos_program.specs.declared.model.Goal.{Goal}
+use Rattle.goal_model.specs.declared.model.Link as code
+use Rattle.goal_model.specs.declared.model.Goal.{Goal}
 use Rattle.kaos_program.specs.declared.report.Entry.{Entry}
-use Rattle.kaos_program.specs.Models.{NamedFormula, LinkForm, ModelForm, link_of, goal_of}
+use Rattle.goal_model.specs.Models.{NamedFormula, LinkForm, ModelForm, link_of, goal_of}
 use Rattle.kaos_program.specs.Reports.{IsEntry, AreEntries}
 
 -- what all links have, the link at a place has

@@ -1,9 +1,4 @@
 pub mod ValuesTexts
-pub mod Adding
-pub mod ReachMarks
-pub mod ReachSearch
-pub mod PlainModels
-pub mod Resolving
 pub mod OneWord
 pub mod DemandParts
 pub mod ValuationLaws
@@ -11,3 +6,5 @@ pub mod ValuationOrder
 pub mod ValuationParts
 pub mod RunParts
 pub mod Answering
+pub mod PlainStatements
+pub mod TruthRows

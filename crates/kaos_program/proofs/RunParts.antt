@@ -7,8 +7,9 @@ use Rattle.kaos_program.specs.declared.report.Report.{Report}
 use Rattle.std.specs.Prelude.{String}
 use Rattle.std.specs.Global.{Global}
 use Rattle.kaos_program.specs.Texts.{usage_text, too_long_text}
-use Rattle.kaos_program.specs.Answering.{a_long_text}
-use Rattle.kaos_program.specs.Running.{AreWords, AnswersAll, IsDue, for_words}
+use Rattle.kaos_program.specs.Answering.{too_long as a_long_text, a_refusal}
+use Rattle.kaos_program.specs.declared.command.Command.{Command}
+use Rattle.kaos_program.specs.Running.{AreOtherWords, AnswersAll, IsDue, for_words}
 use Rattle.kaos_program.specs.Finishing.{Finishes, whole, cut_off}
 
 pub written_whole : (old new : Option (List ℕ)) (before now due status : ℕ) (output : List ℕ) → Finishes old new before now due status output → status < 5 → (status ≡ due) × Appends old new output
@@ -25,10 +26,10 @@ long_source None new n taken = (taken.0, tt, omega (arith, taken.1))
 long_source (Some xs) None n taken = absurd taken.2
 long_source (Some xs) (Some ys) n taken = (xs, refl, omega (arith, taken.1, ap length taken.2, length-append taken.0 ys))
 
-pub too_long : (old new : Option (List ℕ)) → TakesMany old new 1048577 → AnswersAll old new 2 None too_long_text
-too_long old new taken =
+pub too_long : (command : Command) (old new : Option (List ℕ)) → TakesMany old new 1048577 → AnswersAll command old new 2 None too_long_text
+too_long command old new taken =
     let long = long_source old new 1048577 taken in
-    record { bytes = long.0; all = long.1; answered = a_long_text (omega (arith, long.2)); ended = λ short. absurd (omega (arith, short, long.2)) }
+    record { bytes = long.0; all = long.1; answered = a_refusal command too_long_text (a_long_text (omega (arith, long.2))); ended = λ short. absurd (omega (arith, short, long.2)) }
 
 -- an output of which a front was written
 pub cut : (words : List (String Global)) (left after old new : Option (List ℕ)) (before now k status : ℕ) (report : Option Report) (output : List ℕ) → IsDue words left after k report output → k < 5
@@ -38,8 +39,8 @@ cut words left after old new before now k status report output due small finishe
     let front = written_front old new before now k status output finishes small five in
     (front.0, k, output, due, front.1)
 
-pub usage_due : (words : List (String Global)) (left : Option (List ℕ)) (k : ℕ) (report : Option Report) → (AreWords words → ⊥) → k ≡ 3 → report ≡ None → IsDue words left left k report usage_text
+pub usage_due : (words : List (String Global)) (left : Option (List ℕ)) (k : ℕ) (report : Option Report) → AreOtherWords words → k ≡ 3 → report ≡ None → IsDue words left left k report usage_text
 usage_due words left k report others is none = rw (is, none) (for_words others refl)
 
-pub long_answers : (left after : Option (List ℕ)) (k : ℕ) (report : Option Report) → TakesMany left after 1048577 → k ≡ 2 → report ≡ None → AnswersAll left after k report too_long_text
-long_answers left after k report taken is none = rw (is, none) (too_long left after taken)
+pub long_answers : (command : Command) (left after : Option (List ℕ)) (k : ℕ) (report : Option Report) → TakesMany left after 1048577 → k ≡ 2 → report ≡ None → AnswersAll command left after k report too_long_text
+long_answers command left after k report taken is none = rw (is, none) (too_long command left after taken)

@@ -1,6 +1,6 @@
 -- What plain formulas say of a periodic trace, they say of the valuations that it goes through; and what they say of a valuation, they say of the lasso that stays there.
 use Rattle.std.proofs.Common.{◌≡◌, ℕ, ◌<◌, ◌↔◌, List, [], ◌∷◌, ◌++◌, length, refl, sym, ap, ◌∙◌, subst, arith, Bool, true, false, map}
-use Rattle.std.specs.Prelude.{◌&&◌, not, All, IsTrue, slice_index, slice_index_or}
+use Rattle.std.specs.Prelude.{◌&&◌, nat_lt, not, All, IsTrue, slice_index, slice_index_or}
 use Rattle.std.specs.Cmp.Derive.{both_true}
 use Rattle.std.specs.List.{range_with_len}
 use Rattle.std.proofs.lemmas.Bool.{ltb-true}
@@ -10,18 +10,22 @@ use Rattle.std.proofs.lemmas.List.FromFn.{length-map-range_with_len, get_or-map-
 use Rattle.state_space.specs.Ranges.{truth_values, size_of}
 use Rattle.state_space.specs.Fitting.{ValuesFit}
 use Rattle.temporal_logic.specs.declared.lasso.Lasso.{Lasso}
-use Rattle.temporal_logic.specs.Ltl.{Ltl, truth, falsity, flag, neg, conj, disj, implies, iff, always}
+use Rattle.temporal_logic.specs.Ltl.{Ltl, truth, falsity, flag, compares, among, relates, neg, conj, disj, implies, iff, always}
 use Rattle.temporal_logic.specs.Shapes.{is_state_of, VariablesBelow}
 use Rattle.temporal_logic.specs.Truth.{Trace, Truth, Meets}
 use Rattle.temporal_logic.specs.Traces.{Loops, IsPeriodic}
 use Rattle.temporal_logic.specs.Lassos.{trace_of, values_at}
 use Rattle.temporal_logic.proofs.Agreement.{truth_along, state_truth_below}
 use Rattle.temporal_logic.proofs.Decided.{truth_decided}
-use Rattle.kaos_program.specs.Models.{LinkForm, ModelForm, sizes_of}
+use Rattle.goal_model.specs.Models.{LinkForm, ModelForm, sizes_of}
 use Rattle.kaos_program.specs.Plain.{is_plain_state, is_plain, IsPlain}
 use Rattle.kaos_program.specs.Demands.{HasNoTrace, goal_formula, complete_list}
 use Rattle.kaos_program.proofs.ValuationParts.{All-unmap}
 use Rattle.kaos_program.specs.Valuations.{steady, AreBits, Refutes}
+
+-- as many values as there are variables are as many as they are
+pub own_bits : {n : ℕ} {values : List ℕ} → AreBits n values → AreBits (length values) values
+own_bits {values = values} h = record { count = refl; bits = λ x l. h.bits x (omega (arith, h.count)) }
 
 -- ---- plain formulas
 both_parts : (a b : Bool) → (a && b) ≡ true → (a ≡ true) × (b ≡ true)
@@ -32,6 +36,10 @@ plain_variables : (n : ℕ) (f : Ltl) → is_plain_state n f ≡ true → Variab
 plain_variables n truth h = tt
 plain_variables n falsity h = tt
 plain_variables n (flag x) h = ltb-true x n h
+plain_variables n (compares x r v) h = ltb-true x n h
+plain_variables n (among x set) h = ltb-true x n h
+plain_variables n (relates x r y) h =
+    let both = both_parts (nat_lt x n) (nat_lt y n) h in (ltb-true x n both.0, ltb-true y n both.1)
 plain_variables n (neg a) h = plain_variables n a h
 plain_variables n (conj a b) h =
     let both = both_parts (is_plain_state n a) (is_plain_state n b) h in (plain_variables n a both.0, plain_variables n b both.1)
@@ -47,6 +55,9 @@ plain_states : (n : ℕ) (f : Ltl) → is_plain_state n f ≡ true → is_state_
 plain_states n truth h = refl
 plain_states n falsity h = refl
 plain_states n (flag x) h = refl
+plain_states n (compares x r v) h = refl
+plain_states n (among x set) h = refl
+plain_states n (relates x r y) h = refl
 plain_states n (neg a) h = plain_states n a h
 plain_states n (conj a b) h =
     let both = both_parts (is_plain_state n a) (is_plain_state n b) h in both_true (plain_states n a both.0) (plain_states n b both.1)

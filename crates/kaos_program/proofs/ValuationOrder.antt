@@ -3,7 +3,7 @@ use Rattle.std.proofs.Common.{◌≡◌, ◌≢◌, ℕ, ◌+◌, ◌<◌, List,
 use Rattle.std.specs.Prelude.{slice_index}
 use Rattle.std.proofs.lemmas.Bool.{cases_lt, cases_eq}
 use Rattle.std.proofs.lemmas.List.{ext_get_or, get_or_past, get_or-set_other, get_or-set_same}
-use Rattle.kaos_program.specs.Models.{LinkForm, ModelForm}
+use Rattle.goal_model.specs.Models.{LinkForm, ModelForm}
 use Rattle.kaos_program.specs.Valuations.{AreBits, Refutes, AgreeBefore, Precedes, NoneRefutes, IsFirst}
 
 module _ (place v : ℕ) (values : List ℕ) (inside : place < length values) where

@@ -8,9 +8,9 @@ use Rattle.state_space.specs.Ranges.{form_of, size_of}
 use Rattle.state_space.specs.Spaces as spaces
 use Rattle.temporal_logic.specs.Ltl.{truth}
 use Rattle.temporal_logic.specs.Trees.{tree_of}
-use Rattle.kaos_program.specs.declared.model.Goal.{Goal}
-use Rattle.kaos_program.specs.declared.model.Model.{Model}
-use Rattle.kaos_program.specs.Models.{NamedFormula, property_of, goal_of, model_of, sizes_of}
+use Rattle.goal_model.specs.declared.model.Goal.{Goal}
+use Rattle.goal_model.specs.declared.model.Model.{Model}
+use Rattle.goal_model.specs.Models.{NamedFormula, property_of, goal_of, model_of, sizes_of}
 use Rattle.kaos_program.specs.Demands.{goal_formula}
 
 -- what is said of each image is said of what it is the image of

@@ -1,23 +1,47 @@
--- What is answered to the bytes of a text.
-use Rattle.std.specs.Prelude.{ℕ, ◌<◌, ◌≤◌, List, length, Option, Some, None}
+-- What is answered to the bytes of a text under each command.
+use Rattle.std.specs.Prelude.{◌≡◌, ℕ, ◌<◌, ◌≤◌, ◌^◌, Bool, List, length, vec_len, codes, Option, Some, None}
+use Rattle.model_text.specs.declared.text.TextRefusal.{TextRefusal}
 use Rattle.model_text.specs.Statements.{StatementForm}
-use Rattle.model_text.specs.Grammar.{IsReadable}
+use Rattle.model_text.specs.Readability.{IsReadable, Refuses}
+use Rattle.goal_model.specs.declared.resolution.ModelRefusal.{ModelRefusal}
+use Rattle.goal_model.specs.Models.{ModelForm}
+use Rattle.goal_model.specs.Resolution.{IsModel, RefusesModel}
+use Rattle.goal_model.specs.Models.{model_of, IsWellFormed}
+use Rattle.model_text.specs.Statements.{statements_of}
+use Rattle.kaos_program.specs.declared.answer.Reading.{Reading}
+use Rattle.kaos_program.specs.declared.answer.Reading.TheVariants.{Accepted, Refused}
+use Rattle.kaos_program.specs.declared.command.Command.{Command}
+use Rattle.kaos_program.specs.declared.command.Command.TheVariants.{Check, Trace}
 use Rattle.kaos_program.specs.declared.report.Report.{Report}
-use Rattle.kaos_program.specs.Models.{ModelForm}
-use Rattle.kaos_program.specs.Resolution.{IsModel}
+use Rattle.kaos_program.specs.Undecided.{first_undecided}
 use Rattle.kaos_program.specs.Reports.{Reports, status_of}
-use Rattle.kaos_program.specs.Texts.{too_long_text, not_built_text, report_text}
+use Rattle.kaos_program.specs.Truths.{AreTruths, status_of_truths}
+use Rattle.kaos_program.specs.Texts.{too_long_text, text_refusal, model_refusal, statement_refusal, report_text, truths_text}
 
--- the bytes spell statements that make this model
-pub record IsAccepted (bytes : List ℕ) (m : ModelForm) : Type 0 where
-  pub statements : List StatementForm
+-- the bytes are within their limit and spell these statements, which make this model
+pub record IsAccepted (bytes : List ℕ) (statements : List StatementForm) (m : ModelForm) : Type 0 where
+  pub size : length bytes ≤ 1048576
   pub readable : IsReadable bytes statements
   pub made : IsModel statements m
 
--- the status, the report and the output that bytes have: a text over the limit and one that makes no model are refused, and every
--- other text has a report that answers each demand of its model
-pub data Answers (bytes : List ℕ) : ℕ → Option Report → List ℕ → Type 0 where
-  a_long_text : 1048576 < length bytes → Answers bytes 2 None too_long_text
-  a_refusal : length bytes ≤ 1048576 → ((m : ModelForm) → IsAccepted bytes m → ⊥) → Answers bytes 2 None not_built_text
-  a_report : (m : ModelForm) (report : Report) → length bytes ≤ 1048576 → IsAccepted bytes m → Reports m report
-      → Answers bytes (status_of report) (Some report) (report_text m.names report)
+-- the line for a text that makes no model: it is too long, it has no statements, or these make none
+pub data IsRefused (bytes : List ℕ) : List ℕ → Type 0 where
+  too_long : 1048576 < length bytes → IsRefused bytes too_long_text
+  a_text : (e : TextRefusal) → length bytes ≤ 1048576 → Refuses bytes e → IsRefused bytes (text_refusal e)
+  its_statements : (ss : List StatementForm) (e : ModelRefusal) → length bytes ≤ 1048576 → IsReadable bytes ss → RefusesModel ss e → IsRefused bytes (model_refusal e)
+
+-- the status, the report and the output that bytes have under a command: a text that makes no model is refused, and so is under `check`
+-- one with a statement that can't be decided yet; else there is the report that answers each demand, or the truth of each goal on each trace
+pub data Answers (bytes : List ℕ) : Command → ℕ → Option Report → List ℕ → Type 0 where
+  a_refusal : (command : Command) (line : List ℕ) → IsRefused bytes line → Answers bytes command 2 None line
+  an_undecided_statement : (ss : List StatementForm) (m : ModelForm) (number : ℕ) → IsAccepted bytes ss m → first_undecided 0 1 ss ≡ Some number
+      → Answers bytes Check 2 None (statement_refusal number (codes "NotBuilt"))
+  a_report : (ss : List StatementForm) (m : ModelForm) (report : Report) → IsAccepted bytes ss m → first_undecided 0 1 ss ≡ None → Reports m report
+      → Answers bytes Check (status_of report) (Some report) (report_text m.names report)
+  truths : (ss : List StatementForm) (m : ModelForm) (rows : List (List Bool)) → IsAccepted bytes ss m → AreTruths m rows
+      → Answers bytes Trace (status_of_truths rows) None (truths_text m rows)
+
+-- what the bytes come to before any command: their statements and the model of these, or the line of a refusal
+abbrev pub ReadsTo : List ℕ → Reading → Type 0
+ReadsTo bytes (Accepted raw model) = IsAccepted bytes (statements_of raw) (model_of model) × IsWellFormed (model_of model) × (vec_len raw.statements < 2 ^ 32)
+ReadsTo bytes (Refused line) = IsRefused bytes line.items

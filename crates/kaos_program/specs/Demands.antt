@@ -3,7 +3,7 @@ use Rattle.std.specs.Prelude.{ℕ, List, [], ◌∷◌, ◌++◌, map, slice_ind
 use Rattle.temporal_logic.specs.Ltl.{Ltl, truth, neg}
 use Rattle.temporal_logic.specs.Truth.{Trace, Meets}
 use Rattle.temporal_logic.specs.Traces.{IsPeriodic}
-use Rattle.kaos_program.specs.Models.{LinkForm, ModelForm, sizes_of}
+use Rattle.goal_model.specs.Models.{LinkForm, ModelForm, sizes_of}
 
 -- no ultimately periodic trace of the model's space meets the list
 abbrev pub HasNoTrace : ModelForm → List Ltl → Type 0

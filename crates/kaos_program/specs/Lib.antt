@@ -1,12 +1,10 @@
-pub mod Models
-pub mod Reachability
-pub mod Marking
-pub mod Resolution
+pub mod Commands
 pub mod Demands
 pub mod Plain
+pub mod Undecided
 pub mod Valuations
-pub mod Judging
 pub mod Reports
+pub mod Truths
 pub mod Texts
 pub mod Answering
 pub mod Running

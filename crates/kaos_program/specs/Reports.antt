@@ -10,7 +10,7 @@ use Rattle.kaos_program.specs.declared.report.Evidence.{Evidence}
 use Rattle.kaos_program.specs.declared.report.Evidence.TheVariants.{Nothing, Trace}
 use Rattle.kaos_program.specs.declared.report.Entry.{Entry}
 use Rattle.kaos_program.specs.declared.report.Report.{Report}
-use Rattle.kaos_program.specs.Models.{LinkForm, ModelForm, sizes_of}
+use Rattle.goal_model.specs.Models.{LinkForm, ModelForm, sizes_of}
 use Rattle.kaos_program.specs.Demands.{HasNoTrace, complete_list}
 
 -- a verdict and its evidence are right of a list that is to have no trace: it holds where no trace of the space meets the list, and

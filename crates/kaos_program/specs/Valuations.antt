@@ -1,7 +1,7 @@
 -- Valuations: which of them refute a refinement, and which comes before which.
 use Rattle.std.specs.Prelude.{◌≡◌, ℕ, ◌<◌, List, length, slice_index}
 use Rattle.temporal_logic.specs.Truth.{Trace, Meets}
-use Rattle.kaos_program.specs.Models.{LinkForm, ModelForm}
+use Rattle.goal_model.specs.Models.{LinkForm, ModelForm}
 use Rattle.kaos_program.specs.Demands.{complete_list}
 
 -- each variable keeps its value for ever

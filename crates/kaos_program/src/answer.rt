@@ -1,15 +1,24 @@
 //! The answer to the bytes of a text: the status, the report and the output. It reads and writes nothing.
 
-ghost use Rattle.std.specs.Prelude.{◌≡◌, ◌≤◌, ◌<◌, None, length, IfOk};
-ghost use Rattle.kaos_program.specs.Answering.{Answers};
-ghost use Rattle.kaos_program.specs.Texts.{not_built_text};
+ghost use Rattle.std.specs.Prelude.{◌≡◌, ◌≤◌, ◌<◌, ◌^◌, ℕ, List, None, length, vec_len, map, IfOk};
+ghost use Rattle.std.specs.List.{list_all};
+ghost use Rattle.model_text.specs.Statements.{StatementForm, statements_of};
+ghost use Rattle.goal_model.specs.Models.{model_of, IsWellFormed};
+ghost use Rattle.goal_model.specs.Resolution.{IsModel};
+ghost use Rattle.kaos_program.specs.Answering.{IsAccepted, ReadsTo, Answers};
 ghost use Rattle.kaos_program.specs.Reports.{status_of as status_of_report};
+ghost use Rattle.kaos_program.specs.Truths.{status_of_truths as status_of_rows};
 
+use crate::command::Command;
 use crate::demand::report;
+use crate::refusal_text::{model_refusal, statement_refusal, text_refusal};
 use crate::report::Report;
-use crate::resolution::{ModelRefusal, resolve};
 use crate::text::{counts, report_text};
-use model_text::{TextRefusal, read_model};
+use crate::truths::truths;
+use crate::truths_text::truths_text;
+use crate::undecided::first_undecided;
+use goal_model::{Model, resolve};
+use model_text::{RawModel, read_model};
 use source_sink::Memory;
 use std::alloc::Global;
 
@@ -24,14 +33,38 @@ pub(crate) struct Answer {
     pub(crate) output: Vec<u8>,
 }
 
-fn not_built(alloc: Global) -> Result<Answer, Memory>
-    ensures refused { IfOk result (λ a. (a.status ≡ 2) × (a.report ≡ None) × (a.output.items ≡ not_built_text)) }
+// What bytes come to before any command.
+#[derive(Drop)]
+enum Reading {
+    /// Their statements, and the model of these.
+    Accepted(RawModel, Model),
+    /// The line that says why there is none.
+    Refused(Vec<u8>),
+}
+
+fn refused(line: Vec<u8>) -> Answer
+    ensures refused { (result.status ≡ 2) × (result.report ≡ None) × (result.output.items ≡ line.items) }
 {
-    Ok(Answer {
+    Answer {
         status: 2,
         report: None,
-        output: Vec::from_slice(alloc, b"refused: statement 1: NotBuilt\n")?,
-    })
+        output: line,
+    }
+}
+
+// Looks for the model of bytes within the limit.
+fn read(alloc: Global, bytes: &[u8]) -> Result<Reading, Memory>
+    requires { length bytes.now ≤ MOST_BYTES }
+    ensures read { IfOk result (λ reading. ReadsTo bytes.now reading) }
+{
+    let raw = match read_model(alloc, bytes) {
+        Ok(raw) => raw,
+        Err(refusal) => return Ok(Reading::Refused(text_refusal(alloc, refusal)?)),
+    };
+    match resolve(alloc, &raw) {
+        Ok(model) => Ok(Reading::Accepted(raw, model)),
+        Err(refusal) => Ok(Reading::Refused(model_refusal(alloc, refusal)?)),
+    }
 }
 
 fn status_of(report: &Report) -> u8
@@ -41,27 +74,72 @@ fn status_of(report: &Report) -> u8
     if failed == 0 { 0 } else { 1 }
 }
 
-/// The answer to bytes within the limit.
-pub(crate) fn answer_to(alloc: Global, bytes: &[u8]) -> Result<Answer, Memory>
-    requires { length bytes.now ≤ MOST_BYTES }
-    ensures answered { IfOk result (λ a. Answers bytes.now a.status a.report a.output.items) }
+// The report on a model, if all of its statements can be decided.
+fn check(alloc: Global, raw: &RawModel, model: &Model) -> Result<Answer, Memory>
+    requires few { vec_len raw.now.statements < 2 ^ 32 }
+    requires made { IsModel (statements_of raw.now) (model_of model.now) }
+    requires well_formed { IsWellFormed (model_of model.now) }
+    ensures answered { (bytes : List ℕ) → IsAccepted bytes (statements_of raw.now) (model_of model.now)
+        → IfOk result (λ a. Answers bytes Command.Check a.status a.report a.output.items) }
     ensures status { IfOk result (λ a. a.status < 3) }
 {
-    let raw = match read_model(alloc, bytes) {
-        Ok(raw) => raw,
-        Err(TextRefusal::NotBuilt(_)) => return not_built(alloc),
-        Err(TextRefusal::Memory) => return Err(Memory),
-    };
-    let model = match resolve(alloc, &raw) {
-        Ok(model) => model,
-        Err(ModelRefusal::NotBuilt(_)) => return not_built(alloc),
-        Err(ModelRefusal::Memory) => return Err(Memory),
-    };
-    let report = report(alloc, &model)?;
+    if let Some(number) = first_undecided(&raw.statements) {
+        return Ok(refused(statement_refusal(alloc, number, b"NotBuilt")?));
+    }
+    let report = report(alloc, model)?;
     let output = report_text(alloc, &model.space, &report)?;
     Ok(Answer {
         status: status_of(&report),
         report: Some(report),
         output,
     })
+}
+
+fn are_all_true(row: &[bool]) -> bool
+    ensures { result ≡ list_all (λ b. b) row.now }
+{
+    row.iter().all(|truth| *truth)
+}
+
+fn status_of_truths(rows: &[Vec<bool>]) -> u8
+    ensures { result ≡ status_of_rows (map (λ row. row.items) rows.now) }
+{
+    'rows: for row in rows {
+        if !are_all_true(row) {
+            return 1;
+        }
+    }
+    0
+}
+
+// The truth of each goal on each trace of a model.
+fn trace(alloc: Global, model: &Model) -> Result<Answer, Memory>
+    requires well_formed { IsWellFormed (model_of model.now) }
+    ensures answered { (bytes : List ℕ) (ss : List StatementForm) → IsAccepted bytes ss (model_of model.now)
+        → IfOk result (λ a. Answers bytes Command.Trace a.status a.report a.output.items) }
+    ensures status { IfOk result (λ a. a.status < 3) }
+{
+    let rows = truths(alloc, model)?;
+    let output = truths_text(alloc, model, &rows)?;
+    Ok(Answer {
+        status: status_of_truths(&rows),
+        report: None,
+        output,
+    })
+}
+
+/// The answer to bytes within the limit under a command.
+pub(crate) fn answer_to(alloc: Global, command: Command, bytes: &[u8]) -> Result<Answer, Memory>
+    requires { length bytes.now ≤ MOST_BYTES }
+    ensures answered { IfOk result (λ a. Answers bytes.now command a.status a.report a.output.items) }
+    ensures status { IfOk result (λ a. a.status < 3) }
+{
+    let (raw, model) = match read(alloc, bytes)? {
+        Reading::Accepted(raw, model) => (raw, model),
+        Reading::Refused(line) => return Ok(refused(line)),
+    };
+    match command {
+        Command::Check => check(alloc, &raw, &model),
+        Command::Trace => trace(alloc, &model),
+    }
 }

@@ -1,13 +1,13 @@
 //! The answer to each demand of a model.
 
 ghost use Rattle.std.specs.Prelude.{◌≡◌, ◌<◌, ◌≤◌, [], ◌∷◌, length, All, IfOk};
-ghost use Rattle.kaos_program.specs.Models.{model_of, link_of};
+ghost use Rattle.goal_model.specs.Models.{model_of, link_of};
 ghost use Rattle.kaos_program.specs.Plain.{IsPlain};
 ghost use Rattle.kaos_program.specs.Reports.{IsEntry, Reports, goal_name};
 
-use crate::model::{Goal, Link, Model};
 use crate::report::{Entry, Evidence, Label, LabelKind, Report, Verdict};
 use crate::valuations::counterexample;
+use goal_model::{Goal, Link, Model};
 use source_sink::Memory;
 use std::alloc::Global;
 
@@ -41,7 +41,6 @@ fn label(alloc: Global, model: &Model, link: &Link) -> Result<Label, Memory>
 
 // The entry of the complete demand of a refinement.
 fn entry(alloc: Global, model: &Model, link: &Link) -> Result<Entry, Memory>
-    requires few { length (model_of model.now).names ≤ 12 }
     requires plain { IsPlain (model_of model.now) }
     requires parent { (link_of link.now).parent < length (model_of model.now).goals }
     requires subgoals { All (λ g. g < length (model_of model.now).goals) (link_of link.now).subgoals }
@@ -64,7 +63,6 @@ fn entry(alloc: Global, model: &Model, link: &Link) -> Result<Entry, Memory>
 
 /// The report on a model.
 pub(crate) fn report(alloc: Global, model: &Model) -> Result<Report, Memory>
-    requires few { length (model_of model.now).names ≤ 12 }
     requires plain { IsPlain (model_of model.now) }
     ensures right { IfOk result (λ r. Reports (model_of model.now) r) }
 {

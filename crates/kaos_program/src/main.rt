@@ -1,18 +1,20 @@
-//! Answers whether the links of a goal model hold, with evidence: `main` hands its words, its
+//! Answers whether the links of a goal model hold, with evidence, and which goals are true on the
+//! traces of a model: `main` hands its words, its
 //! standard input and its standard output to `run`, whose clauses say what is answered.
 #![tactic(auto)]
 
 mod answer;
+mod command;
 mod demand;
-mod formula;
-mod model;
-mod reachability;
+mod refusal_text;
 mod report;
-mod resolution;
 mod run;
 #[cfg(test)]
 mod tests;
 mod text;
+mod truths;
+mod truths_text;
+mod undecided;
 mod valuations;
 
 use run::run;

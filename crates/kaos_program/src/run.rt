@@ -1,24 +1,28 @@
 //! A run, from the bytes that are read to those that are written.
 
 ghost use Rattle.std.specs.Prelude.{◌≡◌, ◌⊎◌, ◌<◌, ◌≤◌, List, ℕ, None};
-ghost use Rattle.std.specs.Bool.{MatchBool};
 ghost use Rattle.std.specs.Io.KnownBytes.{Appends, Keeps};
 ghost use Rattle.source_sink.specs.Causes.{Rose};
 ghost use Rattle.source_sink.specs.Bytes.{AppendsFront};
 ghost use Rattle.kaos_program.specs.Texts.{usage_text, too_long_text};
-ghost use Rattle.kaos_program.specs.Running.{AreWords, AnswersAll, IsDue};
+ghost use Rattle.kaos_program.specs.Commands.{AreWords};
+ghost use Rattle.kaos_program.specs.Running.{AreOtherWords, AnswersAll, IsDue};
 ghost use Rattle.kaos_program.specs.Finishing.{Finishes};
 
 use crate::answer::{MOST_BYTES, answer_to};
+use crate::command::{Command, command_of};
 use crate::report::Report;
 use source_sink::{Memory, ReadAll, Sink, Source, WriteFault, read_all, write_all_of};
 use std::alloc::Global;
+
+/// The commands, a line for each.
+const USAGE: &[u8] = b"usage: kaos check\n       kaos trace\n";
 
 /// The status with which the program ends, from 0 to 7.
 #[derive(Clone, Copy, Debug, PartialEq, Eq)]
 pub struct Status(pub u8);
 
-/// How a run ends. The report is there where the status is 0 or 1, and where it is 5 and the text was accepted.
+/// How a run ends. The report is there under `check` where the status is 0 or 1, and where it is 5 and the text was accepted.
 #[derive(Debug, Drop)]
 pub struct Outcome {
     pub status: Status,
@@ -49,15 +53,6 @@ fn finish<K: Sink>(sink: &mut K, due: Outcome, output: &[u8]) -> Outcome
     }
 }
 
-fn are_words(words: &[String]) -> bool
-    ensures { MatchBool result (AreWords words.now) (AreWords words.now → ⊥) }
-{
-    match words {
-        [word] => word.as_str() == "check",
-        _ => false,
-    }
-}
-
 /// One run of `kaos`: the words are looked at, the source is read to its end, and the output is written.
 pub fn run<S: Source, K: Sink>(
     alloc: Global,
@@ -66,25 +61,25 @@ pub fn run<S: Source, K: Sink>(
     sink: &mut K,
 ) -> Outcome
     // 0, 1 and 2: the words are accepted, and the whole answer to all bytes of the source is written. It is 0 or 1 where the text is
-    // accepted, 1 exactly where a demand fails, and 2 where the text is refused.
-    ensures answered { result.status.0 < 3 → AreWords words.now × (output : List ℕ) × AnswersAll (S.left source.old) (S.left source.new) result.status.0 result.report output
+    // accepted, 1 exactly where a demand fails or a goal is false on a trace, and 2 where the text is refused.
+    ensures answered { result.status.0 < 3 → (command : Command) × AreWords words.now command × (output : List ℕ) × AnswersAll command (S.left source.old) (S.left source.new) result.status.0 result.report output
         × Appends (K.held sink.old) (K.held sink.new) output }
     // 3: the words are not accepted. The source is untouched, and the usage text is written.
-    ensures words { result.status.0 ≡ 3 → (AreWords words.now → ⊥) × (S.left source.new ≡ S.left source.old) × (result.report ≡ None)
+    ensures words { result.status.0 ≡ 3 → AreOtherWords words.now × (S.left source.new ≡ S.left source.old) × (result.report ≡ None)
         × Appends (K.held sink.old) (K.held sink.new) usage_text }
     // 4: the words are accepted, and a read failed. Nothing is written.
-    ensures read_fault { result.status.0 ≡ 4 → AreWords words.now × Rose (S.faults source.old) (S.faults source.new) × (result.report ≡ None)
+    ensures read_fault { result.status.0 ≡ 4 → (command : Command) × AreWords words.now command × Rose (S.faults source.old) (S.faults source.new) × (result.report ≡ None)
         × Keeps (K.held sink.old) (K.held sink.new) }
     // 5: a write failed. A front of what was due is written.
     ensures write_fault { result.status.0 ≡ 5 → Rose (K.faults sink.old) (K.faults sink.new) × (due : ℕ) × (output : List ℕ)
         × IsDue words.now (S.left source.old) (S.left source.new) due result.report output × AppendsFront (K.held sink.old) (K.held sink.new) output }
     // 7: the words are accepted, and memory ran out. Nothing is written.
-    ensures memory { result.status.0 ≡ 7 → AreWords words.now × (result.report ≡ None) × Keeps (K.held sink.old) (K.held sink.new) }
+    ensures memory { result.status.0 ≡ 7 → (command : Command) × AreWords words.now command × (result.report ≡ None) × Keeps (K.held sink.old) (K.held sink.new) }
     ensures statuses { (result.status.0 ≤ 5) ⊎ (result.status.0 ≡ 7) }
 {
-    if !are_words(words) {
-        return finish(sink, without_report(3), b"usage: kaos check\n");
-    }
+    let Some(command) = command_of(words) else {
+        return finish(sink, without_report(3), USAGE);
+    };
     let bytes = match read_all(alloc, source, MOST_BYTES) {
         Ok(bytes) => bytes,
         Err(ReadAll::TooLong) => {
@@ -94,7 +89,7 @@ pub fn run<S: Source, K: Sink>(
         Err(ReadAll::ReadFault) => return without_report(4),
         Err(ReadAll::Memory) => return without_report(7),
     };
-    match answer_to(alloc, &bytes) {
+    match answer_to(alloc, command, &bytes) {
         Ok(answer) => {
             let due = Outcome {
                 status: Status(answer.status),

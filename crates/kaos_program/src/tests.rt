@@ -1,5 +1,8 @@
 //! Answers to texts, and what runs do at faults, each worked out by hand from the rules of models and reports.
 
+mod refusals;
+mod traces;
+
 use crate::run::run;
 use source_sink::{MemorySink, MemorySource, SteadySource};
 use std::alloc::{AllocError, Global};
@@ -10,9 +13,7 @@ const MOST: usize = 1_048_576;
 
 const EMPTY_REPORT: &str = "kaos report 1 budget 20000\ntotal: 0 hold, 0 fail, 0 withheld\n";
 
-const NOT_BUILT: &str = "refused: statement 1: NotBuilt\n";
-
-const USAGE: &str = "usage: kaos check\n";
+const USAGE: &str = "usage: kaos check\n       kaos trace\n";
 
 const FIRST_TEXT: &str =
     "kaos 1; var a: bool; var b: bool; goal P: always a; goal Q: always b; refine P by Q;";
@@ -24,7 +25,7 @@ refine 6 P complete: fails
 total: 0 hold, 1 fail, 0 withheld
 ";
 
-// A text of one variable and two goals, behind which more statements can stand.
+// A text of one variable and two goals, of 56 bytes, behind which more statements can stand.
 const FRONT: &str = "kaos 1; var a: bool; goal P: always a; goal Q: always a;";
 
 fn words_of(alloc: Global, words: &[&str]) -> Result<Vec<String>, AllocError> {
@@ -43,7 +44,32 @@ fn repeated(alloc: Global, piece: &str, count: usize) -> Result<String, AllocErr
     Ok(text)
 }
 
-// A run on these bytes ends with this status, and writes this output.
+// A run of a command on these bytes ends with this status, and writes this output.
+fn answers_to(
+    rt: &impl Abort,
+    alloc: Global,
+    word: &str,
+    name: &str,
+    bytes: &[u8],
+    status: u8,
+    output: &str,
+) -> Result<(), Fail> {
+    let words = words_of(alloc, &[word])?;
+    let bytes = Vec::from_slice(alloc, bytes)?;
+    let mut source = MemorySource::new(bytes, MOST, Vec::new(alloc));
+    let mut sink = MemorySink::new(alloc, MOST, MOST, Vec::new(alloc))?;
+    let outcome = run(alloc, &words, &mut source, &mut sink);
+    assert_eq!(rt; sink.bytes(), output.as_bytes(), "{name}");
+    assert_eq!(rt; outcome.status.0, status, "{name}");
+    assert_eq!(rt;
+        outcome.report.is_some(),
+        word == "check" && status < 2,
+        "{name}"
+    );
+    Ok(())
+}
+
+// A run of `check` on these bytes ends with this status, and writes this output.
 fn answers(
     rt: &impl Abort,
     alloc: Global,
@@ -52,15 +78,7 @@ fn answers(
     status: u8,
     output: &str,
 ) -> Result<(), Fail> {
-    let words = words_of(alloc, &["check"])?;
-    let bytes = Vec::from_slice(alloc, bytes)?;
-    let mut source = MemorySource::new(bytes, MOST, Vec::new(alloc));
-    let mut sink = MemorySink::new(alloc, MOST, MOST, Vec::new(alloc))?;
-    let outcome = run(alloc, &words, &mut source, &mut sink);
-    assert_eq!(rt; sink.bytes(), output.as_bytes(), "{name}");
-    assert_eq!(rt; outcome.status.0, status, "{name}");
-    assert_eq!(rt; outcome.report.is_some(), status < 2, "{name}");
-    Ok(())
+    answers_to(rt, alloc, "check", name, bytes, status, output)
 }
 
 #[test]
@@ -131,6 +149,12 @@ fn operators(rt: HostRuntime) -> Result<(), Fail> {
         ("a iff b", "a and b", ""),
         ("a iff b", "true", "a=false b=true c=false"),
         ("a and b", "a iff b", "a=false b=false c=false"),
+        ("a = true", "a", ""),
+        ("a != b", "a = b", "a=false b=false c=false"),
+        ("a <= b", "a < b", ""),
+        ("a < b", "a <= b", "a=false b=false c=false"),
+        ("a > false", "b in {true}", "a=false b=true c=false"),
+        ("a in {true, false}", "true", ""),
     ] {
         refines(&rt, rt.alloc(), parent, subgoal, state)?;
     }
@@ -235,6 +259,8 @@ fn models(rt: HostRuntime) -> Result<(), Fail> {
     Ok(())
 }
 
+const OPERATORS: &str = "refused: limit Operators\n";
+
 // A text of a formula that is `always` over a variable in this text.
 fn goal_around(alloc: Global, open: &str, close: &str, count: usize) -> Result<String, AllocError> {
     let opened = repeated(alloc, open, count)?;
@@ -252,9 +278,17 @@ fn operators_are_bounded(rt: HostRuntime) -> Result<(), Fail> {
     for (name, open, close, count, status, output) in [
         ("100 parentheses", "(", ")", 100, 0, holds),
         ("500 operators and parentheses", "(", ")", 499, 0, holds),
-        ("501 operators and parentheses", "(", ")", 500, 2, NOT_BUILT),
-        ("500 operators", "not ", "", 499, 1, fails),
-        ("501 operators", "not ", "", 500, 2, NOT_BUILT),
+        ("501 operators and parentheses", "(", ")", 500, 2, OPERATORS),
+        ("98 operators within always", "not ", "", 97, 1, fails),
+        (
+            "500 operators",
+            "not ",
+            "",
+            499,
+            2,
+            "refused: limit Depth\n",
+        ),
+        ("501 operators", "not ", "", 500, 2, OPERATORS),
     ] {
         let goal = goal_around(alloc, open, close, count)?;
         let text = format!(in alloc;
@@ -288,7 +322,8 @@ total: 0 hold, 1 fail, 0 withheld
     let twelve = with_variables(alloc, 12)?;
     answers(&rt, alloc, "twelve", twelve.as_bytes(), 1, fails)?;
     let thirteen = with_variables(alloc, 13)?;
-    answers(&rt, alloc, "thirteen", thirteen.as_bytes(), 2, NOT_BUILT)
+    let refused = "refused: statement 14: NotBuilt\n";
+    answers(&rt, alloc, "thirteen", thirteen.as_bytes(), 2, refused)
 }
 
 #[test]
@@ -296,7 +331,7 @@ fn names_and_bytes_are_bounded(rt: HostRuntime) -> Result<(), Fail> {
     let alloc = rt.alloc();
     for (name, length, status, output) in [
         ("a name of 40 bytes", 40, 0, EMPTY_REPORT),
-        ("a name of 41 bytes", 41, 2, NOT_BUILT),
+        ("a name of 41 bytes", 41, 2, "refused: limit NameLength\n"),
     ] {
         let long = repeated(alloc, "n", length)?;
         let text = format!(in alloc; "kaos 1; var {long}: bool;")?;
@@ -310,137 +345,6 @@ fn names_and_bytes_are_bounded(rt: HostRuntime) -> Result<(), Fail> {
         let mut text = Vec::from_slice(alloc, b"kaos 1;")?;
         text.resize(length, b' ')?;
         answers(&rt, alloc, name, &text, status, output)?;
-    }
-    Ok(())
-}
-
-// Statements behind the front that no model has.
-fn refuses(rt: &impl Abort, alloc: Global, rows: &[(&str, &str)]) -> Result<(), Fail> {
-    for (name, rest) in rows {
-        let text = format!(in alloc; "{FRONT} {rest}")?;
-        answers(rt, alloc, name, text.as_bytes(), 2, NOT_BUILT)?;
-    }
-    Ok(())
-}
-
-#[test]
-fn refused_names(rt: HostRuntime) -> Result<(), Fail> {
-    let rows = [
-        ("a variable declared twice", "var a: bool;"),
-        ("a variable named as a goal", "var P: bool;"),
-        ("a goal named as a variable", "goal a: always a;"),
-        ("a goal declared twice", "goal P: always a;"),
-        ("a property named as a variable", "domain a: always a;"),
-        ("a property named as a goal", "domain Q: always a;"),
-        (
-            "a property declared twice",
-            "domain D: always a; domain D: always a;",
-        ),
-        (
-            "a goal named as a property",
-            "domain D: always a; goal D: always a;",
-        ),
-        (
-            "a variable named as a property",
-            "domain D: always a; var D: bool;",
-        ),
-        ("an unknown name in a goal", "goal R: always b;"),
-        ("an unknown name in a property", "domain D: always b;"),
-        (
-            "a variable before its statement",
-            "goal R: always b; var b: bool;",
-        ),
-        ("a goal as a variable", "goal R: always P;"),
-        (
-            "a property as a variable",
-            "domain D: always a; goal R: always D;",
-        ),
-        ("a goal within a formula", "goal R: always (a or not Q);"),
-        ("a name of other case", "goal R: always A;"),
-    ];
-    refuses(&rt, rt.alloc(), &rows)
-}
-
-#[test]
-fn refused_refinements(rt: HostRuntime) -> Result<(), Fail> {
-    let rows = [
-        ("an unknown parent", "refine R by P;"),
-        ("an unknown subgoal", "refine P by R;"),
-        ("an unknown second subgoal", "refine P by Q, R;"),
-        (
-            "a subgoal before its statement",
-            "refine P by R; goal R: always a;",
-        ),
-        ("a variable as a parent", "refine a by P;"),
-        ("a variable as a subgoal", "refine P by a;"),
-        (
-            "a property as a subgoal",
-            "domain D: always a; refine P by D;",
-        ),
-        ("a subgoal twice", "refine P by Q, Q;"),
-        (
-            "a subgoal twice, another between",
-            "goal R: always a; refine P by Q, R, Q;",
-        ),
-        ("a goal by itself", "refine P by P;"),
-        ("a goal by others and itself", "refine P by Q, P;"),
-        ("a cycle of two", "refine P by Q; refine Q by P;"),
-        (
-            "a cycle of three",
-            "goal R: always a; refine P by Q; refine Q by R; refine R by P;",
-        ),
-        (
-            "a cycle over second links and subgoals",
-            "goal R: always a; goal S: always a; refine Q by R; refine Q by S, P; refine P by R, Q;",
-        ),
-    ];
-    refuses(&rt, rt.alloc(), &rows)
-}
-
-#[test]
-fn refused_forms(rt: HostRuntime) -> Result<(), Fail> {
-    let rows = [
-        ("no always", "goal R: a;"),
-        ("eventually", "goal R: eventually a;"),
-        ("always of one side", "goal R: always a or a;"),
-        ("always within", "goal R: always within 1 a;"),
-        ("always twice", "goal R: always always a;"),
-        ("next within", "goal R: always next a;"),
-        ("until within", "goal R: always (a until a);"),
-        ("entails", "goal R: a entails a;"),
-        ("a comparison", "goal R: always (a = true);"),
-        ("no always in a property", "domain D: a;"),
-        ("a range of words", "var x: {a, b};"),
-        ("a second version", "kaos 1;"),
-        ("an iff within an iff", "goal R: always (a iff a iff a);"),
-        ("a missing semicolon", "goal R: always a"),
-        ("a missing colon", "goal R always a;"),
-        ("a missing formula", "goal R: always;"),
-        ("a parenthesis that is not closed", "goal R: always (a;"),
-        ("a parenthesis that is not open", "goal R: always a);"),
-        ("a missing name", "refine P by Q,;"),
-        ("a missing by", "refine P Q;"),
-        ("a keyword as a name", "goal goal: always a;"),
-        ("a semicolon alone", ";"),
-        ("a bad byte", "!"),
-        ("bytes that are not ASCII", "goal R: always \u{e4};"),
-    ];
-    refuses(&rt, rt.alloc(), &rows)
-}
-
-#[test]
-fn refused_versions(rt: HostRuntime) -> Result<(), Fail> {
-    for (name, text) in [
-        ("no byte", ""),
-        ("another version", "kaos 2;"),
-        ("no version", "kaos;"),
-        ("no semicolon", "kaos 1"),
-        ("a statement before it", "var a: bool; kaos 1;"),
-        ("no such statement", "var a: bool;"),
-        ("another case", "Kaos 1;"),
-        ("all in a comment", "# kaos 1;"),
-    ] {
-        answers(&rt, rt.alloc(), name, text.as_bytes(), 2, NOT_BUILT)?;
     }
     Ok(())
 }
@@ -486,6 +390,7 @@ fn write_faults(rt: HostRuntime) -> Result<(), Fail> {
             "kaos report 1 budget",
         ),
         ("a refusal", "check", "kaos 2;", MOST, 2, "refused:"),
+        ("a truth", "trace", "kaos 1;", MOST, 2, "kaos tra"),
         ("the usage text", "help", FIRST_TEXT, MOST, 2, "usage: k"),
     ] {
         let words = words_of(alloc, &[word])?;
@@ -503,7 +408,7 @@ fn write_faults(rt: HostRuntime) -> Result<(), Fail> {
 #[test]
 fn other_words(rt: HostRuntime) -> Result<(), Fail> {
     let alloc = rt.alloc();
-    let rows: [(&str, &[&str]); 7] = [
+    let rows: [(&str, &[&str]); 8] = [
         ("none", &[]),
         ("an empty word", &[""]),
         ("another word", &["report"]),
@@ -511,6 +416,7 @@ fn other_words(rt: HostRuntime) -> Result<(), Fail> {
         ("a longer word", &["checks"]),
         ("the word twice", &["check", "check"]),
         ("the word and another", &["check", "-"]),
+        ("two commands", &["trace", "check"]),
     ];
     let accepted = words_of(alloc, &["check"])?;
     for (name, words) in rows {

@@ -14,14 +14,16 @@ use state_space::{Name, Space, State, VarId};
 use std::alloc::Global;
 use temporal_logic::Lasso;
 
-fn put(out: &mut Vec<u8>, bytes: &[u8]) -> Result<(), Memory>
+/// Bytes behind those that are there.
+pub(crate) fn put(out: &mut Vec<u8>, bytes: &[u8]) -> Result<(), Memory>
     ensures { OnOk result (out.new.items ≡ out.old.items ++ bytes.now) }
 {
     out.extend_from_slice(bytes)?;
     Ok(())
 }
 
-fn put_number(out: &mut Vec<u8>, n: u64) -> Result<(), Memory>
+/// A number in decimal behind the bytes that are there.
+pub(crate) fn put_number(out: &mut Vec<u8>, n: u64) -> Result<(), Memory>
     ensures { OnOk result (out.new.items ≡ out.old.items ++ decimal n) }
 {
     let mut buffer = Buffer::new();

@@ -7,26 +7,30 @@ ghost use Rattle.state_space.specs.Spaces.{sizes};
 ghost use Rattle.temporal_logic.specs.Truth.{Truth, Meets};
 ghost use Rattle.temporal_logic.specs.Trees.{tree_of};
 ghost use Rattle.temporal_logic.specs.Lassos.{values_at, trace_of, IsOfSpace};
-ghost use Rattle.kaos_program.specs.Models.{property_of, model_of, link_of, sizes_of};
+ghost use Rattle.goal_model.specs.Models.{property_of, model_of, link_of, sizes_of};
 ghost use Rattle.kaos_program.specs.Plain.{is_plain_state, is_plain, IsPlain};
 ghost use Rattle.kaos_program.specs.Demands.{HasNoTrace, goal_formula, complete_list};
 ghost use Rattle.kaos_program.specs.Valuations.{steady, AreBits, Refutes, AgreeBefore, NoneRefutes, NoneBefore, IsFirst};
 
-use crate::model::{Link, Model, Property};
+use goal_model::{Link, Model, Property};
 use source_sink::Memory;
 use state_space::{Space, State};
 use std::alloc::Global;
 use temporal_logic::{Formula, Lasso};
 
-// Whether a state formula over flags is true of the values.
+// Whether a state formula is true of the values, each of them 0 or 1.
 fn holds(formula: &Formula, values: &[u8]) -> bool
     requires plain { is_plain_state (length values.now) (tree_of formula.now) ≡ true }
+    requires bits { AreBits (length values.now) values.now }
     ensures truth { IsTrue result ↔ Truth (steady values.now) (tree_of formula.now) 0 }
 {
     match formula {
         Formula::True => true,
         Formula::False => false,
         Formula::Flag(x) => values[x.0 as usize] == 1,
+        Formula::Is(x, cmp, value) => cmp.stands(values[x.0 as usize], *value),
+        Formula::Among(x, set) => set.contains(values[x.0 as usize]),
+        Formula::Same(x, cmp, y) => cmp.stands(values[x.0 as usize], values[y.0 as usize]),
         Formula::Not(a) => !holds(a, values),
         Formula::And(a, b) => holds(a, values) && holds(b, values),
         Formula::Or(a, b) => holds(a, values) || holds(b, values),
@@ -39,6 +43,7 @@ fn holds(formula: &Formula, values: &[u8]) -> bool
 // Whether `always` over such a formula is true where the values stay for ever.
 fn always_holds(formula: &Formula, values: &[u8]) -> bool
     requires plain { is_plain (length values.now) (tree_of formula.now) ≡ true }
+    requires bits { AreBits (length values.now) values.now }
     ensures truth { IsTrue result ↔ Truth (steady values.now) (tree_of formula.now) 0 }
 {
     match formula {
@@ -50,6 +55,7 @@ fn always_holds(formula: &Formula, values: &[u8]) -> bool
 // Whether the values have all domain properties.
 fn domains_hold(domains: &[Property], values: &[u8]) -> bool
     requires plain { All (λ p. is_plain (length values.now) (property_of p).formula ≡ true) domains.now }
+    requires bits { AreBits (length values.now) values.now }
     ensures truth { IsTrue result
         ↔ All (λ p. Truth (steady values.now) (property_of p).formula 0) domains.now }
 {
@@ -61,7 +67,7 @@ fn domains_hold(domains: &[Property], values: &[u8]) -> bool
 // Whether the values have the goal at a place.
 fn goal_holds(model: &Model, place: usize, values: &[u8]) -> bool
     requires plain { IsPlain (model_of model.now) }
-    requires count { length values.now ≡ length (model_of model.now).names }
+    requires bits { AreBits (length (model_of model.now).names) values.now }
     requires place { place < length (model_of model.now).goals }
     ensures truth { IsTrue result
         ↔ Truth (steady values.now) (goal_formula (model_of model.now) place) 0 }
@@ -72,7 +78,7 @@ fn goal_holds(model: &Model, place: usize, values: &[u8]) -> bool
 // Whether the values have the goals at these places.
 fn goals_hold(model: &Model, places: &[usize], values: &[u8]) -> bool
     requires plain { IsPlain (model_of model.now) }
-    requires count { length values.now ≡ length (model_of model.now).names }
+    requires bits { AreBits (length (model_of model.now).names) values.now }
     requires places { All (λ g. g < length (model_of model.now).goals) places.now }
     ensures truth { IsTrue result
         ↔ All (λ g. Truth (steady values.now) (goal_formula (model_of model.now) g) 0) places.now }
@@ -83,7 +89,7 @@ fn goals_hold(model: &Model, places: &[usize], values: &[u8]) -> bool
 // Whether the values refute a refinement.
 fn refutes(model: &Model, link: &Link, values: &[u8]) -> bool
     requires plain { IsPlain (model_of model.now) }
-    requires count { length values.now ≡ length (model_of model.now).names }
+    requires bits { AreBits (length (model_of model.now).names) values.now }
     requires parent { (link_of link.now).parent < length (model_of model.now).goals }
     requires subgoals { All (λ g. g < length (model_of model.now).goals) (link_of link.now).subgoals }
     ensures refutes { IsTrue result ↔ Refutes (model_of model.now) (link_of link.now) values.now }
@@ -142,7 +148,6 @@ pub(crate) fn counterexample(
     model: &Model,
     link: &Link,
 ) -> Result<Option<Lasso>, Memory>
-    requires few { length (model_of model.now).names ≤ 12 }
     requires plain { IsPlain (model_of model.now) }
     requires parent { (link_of link.now).parent < length (model_of model.now).goals }
     requires subgoals { All (λ g. g < length (model_of model.now).goals) (link_of link.now).subgoals }

@@ -1,6 +1,6 @@
 use Rattle.std.proofs.Common.{◌≡◌, ℕ, List, [], ◌∷◌, subst}
 use Rattle.std.specs.Prelude.{IfOk}
-use Rattle.kaos_program.specs.Models.{link_of}
+use Rattle.goal_model.specs.Models.{link_of}
 use Rattle.kaos_program.proofs.DemandParts.{parent_named}
 use Rattle.kaos_program.proofs.demand.label.Goals as goal
 

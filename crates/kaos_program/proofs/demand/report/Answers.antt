@@ -1,5 +1,5 @@
 use Rattle.std.proofs.Common.{◌≡◌, ◌<◌, length, get_or, All}
-use Rattle.kaos_program.specs.Models.{LinkForm, model_of}
+use Rattle.goal_model.specs.Models.{LinkForm, model_of}
 use Rattle.kaos_program.proofs.DemandParts.{link_inside, entries_more}
 use Rattle.kaos_program.proofs.demand.report.Goals as goal
 

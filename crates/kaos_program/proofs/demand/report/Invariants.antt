@@ -1,5 +1,5 @@
 use Rattle.std.proofs.Common.{map, take}
-use Rattle.kaos_program.specs.Models.{model_of, link_of}
+use Rattle.goal_model.specs.Models.{model_of, link_of}
 use Rattle.kaos_program.specs.Reports.{AreEntries}
 use Rattle.kaos_program.proofs.demand.report.Given as goal
 

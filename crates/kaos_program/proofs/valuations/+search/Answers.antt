@@ -1,5 +1,5 @@
 use Rattle.std.proofs.Common.{◌<◌, length, arith}
-use Rattle.kaos_program.specs.Models.{model_of, link_of}
+use Rattle.goal_model.specs.Models.{model_of, link_of}
 use Rattle.kaos_program.proofs.ValuationOrder.{last_found, last_none, zero_found, one_found, both_none}
 use Rattle.kaos_program.proofs.valuations.+search.Goals as goal
 

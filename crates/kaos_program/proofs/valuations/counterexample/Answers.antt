@@ -2,7 +2,7 @@ use Rattle.std.proofs.Common.{◌≡◌, ℕ, List, ◌++◌, length, take, drop
 use Rattle.std.proofs.Math.Seq.{take-append_seam}
 use Rattle.state_space.specs.Fitting.{ValuesFit}
 use Rattle.temporal_logic.specs.Lassos.{IsOfSpace}
-use Rattle.kaos_program.specs.Models.{model_of, link_of}
+use Rattle.goal_model.specs.Models.{model_of, link_of}
 use Rattle.kaos_program.specs.Demands.{complete_list}
 use Rattle.kaos_program.specs.Valuations.{NoneBefore}
 use Rattle.kaos_program.proofs.ValuationParts.{sizes_same}

@@ -2,22 +2,22 @@ use Rattle.std.proofs.Common.{◌≡◌, ◌↔◌, List, ℕ, length, true, sym
 use Rattle.std.specs.Prelude.{All, Bool, IsTrue}
 use Rattle.temporal_logic.specs.Truth.{Truth}
 use Rattle.temporal_logic.proofs.Equivalences.{iff_trans}
-use Rattle.kaos_program.specs.declared.model.Property.{Property}
-use Rattle.kaos_program.specs.declared.model.Model.{Model}
-use Rattle.kaos_program.specs.Models.{NamedFormula, property_of, model_of, link_of}
+use Rattle.goal_model.specs.declared.model.Property.{Property}
+use Rattle.goal_model.specs.declared.model.Model.{Model}
+use Rattle.goal_model.specs.Models.{NamedFormula, property_of, model_of, link_of}
 use Rattle.kaos_program.specs.Plain.{is_plain}
 use Rattle.kaos_program.specs.Demands.{goal_formula}
 use Rattle.kaos_program.specs.Valuations.{steady}
 use Rattle.kaos_program.proofs.ValuationParts.{domains_iff}
-use Rattle.kaos_program.proofs.ValuationLaws.{domains_fail, subgoals_fail, parent_decides}
+use Rattle.kaos_program.proofs.ValuationLaws.{own_bits, domains_fail, subgoals_fail, parent_decides}
 use Rattle.kaos_program.proofs.valuations.refutes.Goals as goal
 
 pub domains_hold-requires : goal.domains_hold-requires
 domains_hold-requires c =
     let m = c.args.model.now in
     let IsPlainHere = λ (p : NamedFormula). is_plain (length c.args.values.now) p.formula ≡ true in
-    let plain = subst (λ n. All (λ p. is_plain n p.formula ≡ true) (model_of m).domains) (sym c.requires.count) c.requires.plain.domains in
-    record { plain = subst (λ ps. All (λ p. IsPlainHere (property_of p)) ps) (sym c.deref.ensures.value) ((domains_iff m IsPlainHere).1 plain) }
+    let plain = subst (λ n. All (λ p. is_plain n p.formula ≡ true) (model_of m).domains) (sym c.requires.bits.count) c.requires.plain.domains in
+    record { plain = subst (λ ps. All (λ p. IsPlainHere (property_of p)) ps) (sym c.deref.ensures.value) ((domains_iff m IsPlainHere).1 plain); bits = own_bits c.requires.bits }
 
 -- the test of the properties is one of the model's domain properties
 domains_tested : (m : Model) (values : List ℕ) (ps : List Property) (b : Bool) → ps ≡ m.domains.items → (IsTrue b ↔ All (λ p. Truth (steady values) (property_of p).formula 0) ps) → IsTrue b ↔ All (λ p. Truth (steady values) p.formula 0) (model_of m).domains

@@ -1,8 +1,0 @@
-use Rattle.std.proofs.Common.{◌+◌, drop}
-use Rattle.model_text.specs.Statements.{statements_of, all_statements}
-use Rattle.kaos_program.specs.Models.{model_of}
-use Rattle.kaos_program.proofs.Resolving.{Resolving}
-use Rattle.kaos_program.proofs.resolution.resolve.Given as goal
-
-abbrev pub invariant-statements : goal.invariant-statements
-invariant-statements l = Resolving (statements_of l.raw) (model_of l.model) (l.place + 1) (all_statements (drop l.place l.raw.statements.items))

@@ -1,0 +1,27 @@
+-- The truth of goals on traces.
+use Rattle.std.specs.Prelude.{ℕ, ◌↔◌, Bool, List, [], ◌∷◌, IsTrue, if◌then◌else◌}
+use Rattle.std.specs.List.{list_all}
+use Rattle.temporal_logic.specs.Truth.{Trace, Truth}
+use Rattle.temporal_logic.specs.Rows.{from_lists}
+use Rattle.goal_model.specs.Models.{NamedFormula, TraceForm, ModelForm}
+
+-- one truth value for each goal, in order: whether the goal is true at the start of the trace
+abbrev pub AreTruthsOn : Trace → List NamedFormula → List Bool → Type 0
+AreTruthsOn t [] [] = Unit {0}
+AreTruthsOn t (g ∷ gs) (b ∷ bs) = (IsTrue b ↔ Truth t g.formula 0) × AreTruthsOn t gs bs
+AreTruthsOn t [] (b ∷ bs) = ⊥
+AreTruthsOn t (g ∷ gs) [] = ⊥
+
+-- the truth values of the goals on each trace, in order
+abbrev pub AreTruthRows : List NamedFormula → List TraceForm → List (List Bool) → Type 0
+AreTruthRows goals [] [] = Unit {0}
+AreTruthRows goals (t ∷ ts) (row ∷ rows) = AreTruthsOn (from_lists t.prefix t.cycle) goals row × AreTruthRows goals ts rows
+AreTruthRows goals [] (row ∷ rows) = ⊥
+AreTruthRows goals (t ∷ ts) [] = ⊥
+
+abbrev pub AreTruths : ModelForm → List (List Bool) → Type 0
+AreTruths m rows = AreTruthRows m.goals m.traces rows
+
+-- 1 where some goal is false on some trace
+abbrev pub status_of_truths : List (List Bool) → ℕ
+status_of_truths rows = if list_all (list_all (λ b. b)) rows then 0 else 1

@@ -1,0 +1,84 @@
+//! The lines that say why a text is refused.
+
+ghost use Rattle.std.specs.Prelude.{◌≡◌, ◌++◌, codes, decimal, IfOk};
+ghost use Rattle.kaos_program.specs.Texts.{limit_name as limit_name_of, text_refusal as text_refusal_of, model_refusal as model_refusal_of, statement_refusal as statement_refusal_of};
+
+use crate::text::{put, put_number};
+use goal_model::ModelRefusal;
+use model_text::{LimitKind, TextRefusal};
+use source_sink::Memory;
+use std::alloc::Global;
+
+fn limit_name(kind: LimitKind) -> &'static [u8]
+    ensures { result.now ≡ limit_name_of kind }
+{
+    match kind {
+        LimitKind::Operators => b"Operators",
+        LimitKind::Statements => b"Statements",
+        LimitKind::Links => b"Links",
+        LimitKind::Parts => b"Parts",
+        LimitKind::NameLength => b"NameLength",
+        LimitKind::Number => b"Number",
+        LimitKind::Bound => b"Bound",
+        LimitKind::Depth => b"Depth",
+    }
+}
+
+// A line with the place of a byte at its end.
+fn place_line(alloc: Global, front: &[u8], at: u64) -> Result<Vec<u8>, Memory>
+    ensures { IfOk result (λ line. line.items ≡ front.now ++ decimal at ++ codes "\n") }
+{
+    let mut line = Vec::new(alloc);
+    put(&mut line, front)?;
+    put_number(&mut line, at)?;
+    put(&mut line, b"\n")?;
+    Ok(line)
+}
+
+fn limit_line(alloc: Global, kind: LimitKind) -> Result<Vec<u8>, Memory>
+    ensures { IfOk result (λ line. line.items ≡ codes "refused: limit " ++ limit_name_of kind ++ codes "\n") }
+{
+    let mut line = Vec::new(alloc);
+    put(&mut line, b"refused: limit ")?;
+    put(&mut line, limit_name(kind))?;
+    put(&mut line, b"\n")?;
+    Ok(line)
+}
+
+/// The line for a text that has no statements. Want of memory is no such cause, and comes back as an error.
+pub(crate) fn text_refusal(alloc: Global, refusal: TextRefusal) -> Result<Vec<u8>, Memory>
+    ensures line { IfOk result (λ line. line.items ≡ text_refusal_of refusal) }
+    ensures cause { IfOk result (λ line. refusal ≡ TextRefusal.Memory → ⊥) }
+{
+    match refusal {
+        TextRefusal::BadByte(at) => place_line(alloc, b"refused: bad byte at ", at),
+        TextRefusal::Limit(kind) => limit_line(alloc, kind),
+        TextRefusal::Syntax(at) => place_line(alloc, b"refused: syntax at byte ", at),
+        TextRefusal::Memory => Err(Memory),
+    }
+}
+
+/// The line for a statement, by its number from 1 and the word for what is wrong with it.
+pub(crate) fn statement_refusal(alloc: Global, number: u32, kind: &[u8]) -> Result<Vec<u8>, Memory>
+    ensures { IfOk result (λ line. line.items ≡ statement_refusal_of number kind.now) }
+{
+    let mut line = Vec::new(alloc);
+    put(&mut line, b"refused: statement ")?;
+    put_number(&mut line, number as u64)?;
+    put(&mut line, b": ")?;
+    put(&mut line, kind)?;
+    put(&mut line, b"\n")?;
+    Ok(line)
+}
+
+/// The line for statements that make no model. Want of memory is no such cause, and comes back as an error.
+pub(crate) fn model_refusal(alloc: Global, refusal: ModelRefusal) -> Result<Vec<u8>, Memory>
+    ensures line { IfOk result (λ line. line.items ≡ model_refusal_of refusal) }
+    ensures cause { IfOk result (λ line. refusal ≡ ModelRefusal.Memory → ⊥) }
+{
+    match refusal {
+        ModelRefusal::NotBuilt(number) => statement_refusal(alloc, number, b"NotBuilt"),
+        ModelRefusal::Unresolved(number) => statement_refusal(alloc, number, b"Unresolved"),
+        ModelRefusal::Memory => Err(Memory),
+    }
+}

@@ -1,0 +1,52 @@
+//! The truth of each goal on each trace of a model.
+
+ghost use Rattle.std.specs.Prelude.{◌≡◌, ◌↔◌, map, IsTrue, IfOk};
+ghost use Rattle.state_space.specs.Spaces.{ranges, sizes};
+ghost use Rattle.temporal_logic.specs.Fits.{Fits};
+ghost use Rattle.temporal_logic.specs.Lassos.{trace_of, IsOfSpace};
+ghost use Rattle.temporal_logic.specs.Trees.{tree_of};
+ghost use Rattle.temporal_logic.specs.Truth.{Truth};
+ghost use Rattle.goal_model.specs.Models.{model_of, IsWellFormed};
+ghost use Rattle.kaos_program.specs.Truths.{AreTruthsOn, AreTruths};
+
+use goal_model::Model;
+use lasso_checker::{scratch_len, truth_at_start};
+use source_sink::Memory;
+use state_space::Space;
+use std::alloc::Global;
+use temporal_logic::{Formula, Lasso};
+
+// Whether a formula is true at the start of a lasso.
+fn is_true(alloc: Global, space: &Space, lasso: &Lasso, formula: &Formula) -> Result<bool, Memory>
+    requires of_space { IsOfSpace (sizes space.now) lasso.now }
+    requires fits { Fits (ranges space.now) (tree_of formula.now) }
+    ensures truth { IfOk result (λ b. IsTrue b ↔ Truth (trace_of lasso.now) (tree_of formula.now) 0) }
+{
+    let mut scratch = vec![in alloc; 0; scratch_len(lasso, formula) as usize]?;
+    Ok(truth_at_start(space, lasso, formula, &mut scratch))
+}
+
+// Whether each goal is true at the start of a lasso.
+fn truths_on(alloc: Global, model: &Model, lasso: &Lasso) -> Result<Vec<bool>, Memory>
+    requires well_formed { IsWellFormed (model_of model.now) }
+    requires of_space { IsOfSpace (sizes model.now.space) lasso.now }
+    ensures truths { IfOk result (λ row. AreTruthsOn (trace_of lasso.now) (model_of model.now).goals row.items) }
+{
+    let mut row = Vec::new(alloc);
+    'goals: for goal in &model.goals {
+        row.push(is_true(alloc, &model.space, lasso, &goal.formula)?)?;
+    }
+    Ok(row)
+}
+
+/// The truth of each goal at the start of each trace: a list for each trace, with a truth value for each goal.
+pub(crate) fn truths(alloc: Global, model: &Model) -> Result<Vec<Vec<bool>>, Memory>
+    requires well_formed { IsWellFormed (model_of model.now) }
+    ensures truths { IfOk result (λ rows. AreTruths (model_of model.now) (map (λ row. row.items) rows.items)) }
+{
+    let mut rows = Vec::new(alloc);
+    'traces: for trace in &model.traces {
+        rows.push(truths_on(alloc, model, &trace.lasso)?)?;
+    }
+    Ok(rows)
+}
