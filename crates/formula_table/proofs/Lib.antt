@@ -1,0 +1,6 @@
+pub mod Members
+pub mod Decodings
+pub mod Puts
+pub mod ShapeEquality
+pub mod Cores
+pub mod CoreLaws
