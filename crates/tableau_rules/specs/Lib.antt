@@ -1,0 +1,14 @@
+pub mod Sets
+pub mod Words
+pub mod Rules
+pub mod Turns
+pub mod Nodes
+pub mod Meeting
+pub mod Certificates
+pub mod Queries
+pub mod Walks
+pub mod SameCores
+pub mod QuerySeen
+pub mod NodeSeen
+pub mod KidsSeen
+pub mod CertSeen
