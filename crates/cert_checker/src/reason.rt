@@ -1,0 +1,159 @@
+//! Whether the reason holds for which a node is eliminated.
+
+ghost use Rattle.std.specs.Prelude.{◌≡◌, ◌≤◌, ◌<◌, List, length, slice_get};
+ghost use Rattle.bound_unfolding.specs.CoreForm.{CoreForm};
+ghost use Rattle.formula_table.specs.Closures.{formula_at};
+ghost use Rattle.formula_table.specs.Tables.{closure_in};
+ghost use Rattle.tableau_rules.specs.Certificates.{is_until};
+ghost use Rattle.tableau_rules.specs.Rules.{is_clash, fulfils};
+ghost use Rattle.tableau_rules.specs.NodeSeen.{AreNumbersBelow};
+ghost use Rattle.tableau_rules.specs.Turns.{rule_in};
+ghost use Rattle.tableau_rules.specs.CertSeen.{reason_of};
+ghost use Rattle.cert_checker.specs.declared.why.Why.TheVariants.{NotLower, KidLeaves};
+ghost use Rattle.cert_checker.specs.Causes.{first_bad, is_wait, is_lower, stays, is_first_lower, reason_cause};
+ghost use Rattle.cert_checker.specs.Entries.{entry_by, entries_of};
+
+use crate::why::Why;
+use formula_table::{FormulaId, Shape, Table};
+use tableau_rules::{CertNode, Mark, Node, Reason, Turn, turn};
+
+// Whether what stands at the place is eliminated before the rank.
+fn is_lower(cert: &[CertNode], rank: u32, place: u32) -> bool
+    ensures { result ≡ is_lower rank (slice_get (entries_of cert.now) place) }
+{
+    match cert.get(place as usize) {
+        Some(held) => held.mark.rank < rank,
+        None => true,
+    }
+}
+
+// The first kid that is not eliminated before the rank.
+fn not_lower(cert: &[CertNode], rank: u32, kids: &[u32]) -> Option<Why>
+    requires { length kids.now ≤ 255 }
+    ensures { result ≡ first_bad (λ p. is_lower rank (slice_get (entries_of cert.now) p)) NotLower 0 kids.now }
+{
+    for (k, p) in kids.iter().enumerate() {
+        if !is_lower(cert, rank, *p) {
+            return Some(Why::NotLower(k as u8));
+        }
+    }
+    None
+}
+
+// Whether the until of this number is put off.
+fn is_wait(reason: Reason, e: u16) -> bool
+    ensures { result ≡ is_wait e (reason_of reason) }
+{
+    match reason {
+        Reason::Wait(f) => f == e,
+        _ => false,
+    }
+}
+
+// Whether what stands at the place is eliminated before the rank, or waits at it for the same until.
+fn stays(cert: &[CertNode], rank: u32, e: u16, place: u32) -> bool
+    ensures { result ≡ stays rank e (slice_get (entries_of cert.now) place) }
+{
+    match cert.get(place as usize) {
+        Some(held) => {
+            held.mark.rank < rank || (held.mark.rank == rank && is_wait(held.mark.reason, e))
+        }
+        None => true,
+    }
+}
+
+// The first kid that neither is eliminated before the rank nor waits for the same until.
+fn leaving(cert: &[CertNode], rank: u32, e: u16, kids: &[u32]) -> Option<Why>
+    requires { length kids.now ≤ 255 }
+    ensures { result ≡ first_bad (λ p. stays rank e (slice_get (entries_of cert.now) p)) KidLeaves 0 kids.now }
+{
+    for (k, p) in kids.iter().enumerate() {
+        if !stays(cert, rank, e, *p) {
+            return Some(Why::KidLeaves(k as u8));
+        }
+    }
+    None
+}
+
+// Whether the first kid is eliminated before the rank.
+fn is_first_lower(cert: &[CertNode], rank: u32, kids: &[u32]) -> bool
+    ensures { result ≡ is_first_lower (entries_of cert.now) rank kids.now }
+{
+    if kids.is_empty() {
+        true
+    } else {
+        is_lower(cert, rank, kids[0])
+    }
+}
+
+// Whether no kid comes of the turn.
+fn is_clashing(turn: Turn) -> bool
+    ensures { (closure : List CoreForm) → result ≡ is_clash (rule_in closure turn) }
+{
+    match turn {
+        Turn::Clash => true,
+        _ => false,
+    }
+}
+
+// Whether the first kid that comes of the turn fulfils an until.
+fn is_fulfilling(turn: Turn) -> bool
+    ensures { (closure : List CoreForm) → result ≡ fulfils (rule_in closure turn) }
+{
+    match turn {
+        Turn::FulfilOnly(_) | Turn::FulfilOrWait(_, _) => true,
+        _ => false,
+    }
+}
+
+// Whether the table has a formula of this number, and it is an until.
+fn is_until(table: &Table, number: u16) -> bool
+    ensures { result ≡ is_until (formula_at (closure_in table.now) number) }
+{
+    if number < table.len() {
+        matches!(table.node(FormulaId(number)), Shape::Until(_, _))
+    } else {
+        false
+    }
+}
+
+/// Why the node's reason does not hold.
+pub(crate) fn reason_cause(
+    table: &Table,
+    cert: &[CertNode],
+    node: &Node,
+    kids: &[u32],
+    mark: Mark,
+) -> Option<Why>
+    requires todo { AreNumbersBelow (length (closure_in table.now)) node.now.todo }
+    requires few { length kids.now ≤ 255 }
+    ensures { result ≡ reason_cause (closure_in table.now) (entries_of cert.now) (entry_by node.entry.now kids.now mark) (reason_of mark.reason) }
+{
+    let (turn, chosen) = turn(table, node);
+    let clash = is_clashing(turn);
+    match mark.reason {
+        Reason::Clash => { if clash { None } else { Some(Why::NotClash) } }
+        Reason::Dead => {
+            if clash {
+                Some(Why::NotLower(0))
+            } else {
+                not_lower(cert, mark.rank, kids)
+            }
+        }
+        Reason::Wait(e) => {
+            if !is_until(table, e) || clash {
+                return Some(Why::NotUntil);
+            }
+            if !node.todo.has(e) && !node.next.has(e) {
+                return Some(Why::NotCarried);
+            }
+            if let Some(why) = leaving(cert, mark.rank, e, kids) {
+                return Some(why);
+            }
+            if chosen.0 == e && is_fulfilling(turn) && !is_first_lower(cert, mark.rank, kids) {
+                return Some(Why::FulfilNotLower);
+            }
+            None
+        }
+    }
+}
