@@ -1,11 +1,13 @@
 -- What every space keeps, for the crates above: at most 64 variables, distinct names, good ranges.
-use Rattle.std.proofs.Common.{◌≡◌, ◌≢◌, ℕ, ◌<◌, ◌≤◌, List, [], ◌∷◌, map, length, get_or, Some, refl, sym, ap, ◌∙◌, subst, arith, AllPairs, slice_get, slice_index}
+use Rattle.std.proofs.Common.{◌≡◌, ◌≢◌, ℕ, ◌-◌, ◌^◌, ◌<◌, ◌≤◌, Bool, true, false, if◌then◌else◌, List, [], ◌∷◌, ◌++◌, map, length, get_or, Some, refl, sym, ap, ap₂, ◌∙◌, subst, arith, AllPairs, slice_get, slice_index}
 use Rattle.std.specs.List.{All}
-use Rattle.std.proofs.lemmas.List.{length-map, get_or-map}
+use Rattle.std.proofs.lemmas.List.{length-map, get_or-map, map-append}
 use Rattle.std.proofs.lemmas.List.Elements.{All-map}
 use Rattle.std.proofs.lemmas.Option.{get_or_from_slice_get, slice_get_within, slice_get-get_or}
 use Rattle.state_space.specs.declared.space.Space.{Space}
 use Rattle.state_space.specs.declared.space.Variable.{Variable}
+use Rattle.state_space.specs.declared.values.Values.{Values}
+use Rattle.state_space.specs.Members.{full_of}
 use Rattle.state_space.specs.Ranges.{RangeForm, truth_values, form_of, size_of, IsGoodRange}
 use Rattle.state_space.specs.Spaces.{names, ranges, sizes}
 
@@ -44,3 +46,14 @@ good_size space i l =
     let e : slice_index (sizes space) i ≡ size_of range = size_at space i range (slice_get-get_or (ranges space) i truth_values inside) in
     let good : IsGoodRange range = good_ranges space i truth_values inside in
     (subst (λ n. 0 < n) (sym e) good.some, subst (λ n. n ≤ 64) (sym e) good.few)
+
+-- the sets of all indexes, where a variable comes with its set, or neither comes
+pub full_grown : (size : Variable → ℕ) (vs ws : List Variable) (v : Variable) (fs gs : List Values) (f : Values) (grows : Bool)
+    → map (λ s. s.0) fs ≡ full_of (map size vs) → f.0 ≡ 2 ^ size v - 1
+    → ws ≡ (if grows then vs ++ v ∷ [] else vs) → gs ≡ (if grows then fs ++ f ∷ [] else fs)
+    → map (λ s. s.0) gs ≡ full_of (map size ws)
+full_grown size vs ws v fs gs f true old own e h =
+    ap (map (λ (s : Values). s.0)) h ∙ map-append (λ (s : Values). s.0) fs (f ∷ [])
+    ∙ ap₂ (λ a b. a ++ b ∷ []) old own
+    ∙ sym (ap (λ xs. full_of (map size xs)) e ∙ ap full_of (map-append size vs (v ∷ [])) ∙ map-append (λ n. 2 ^ n - 1) (map size vs) (size v ∷ []))
+full_grown size vs ws v fs gs f false old own e h = ap (map (λ (s : Values). s.0)) h ∙ old ∙ sym (ap (λ xs. full_of (map size xs)) e)

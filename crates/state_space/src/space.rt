@@ -1,14 +1,16 @@
 //! Spaces: lists of variables with their ranges. A space has at most 64 variables, no two of one
 //! name, and each has 1 to 64 values: `add` is the only way in, and it refuses all else.
 
-ghost use Rattle.std.specs.Prelude.{◌≡◌, ◌≢◌, ◌≤◌, length, map, position, bytes_eq, AllPairs};
+ghost use Rattle.std.specs.Prelude.{◌≡◌, ◌≢◌, ◌≤◌, ◌-◌, ◌^◌, [], ◌∷◌, ◌++◌, is_ok, if◌then◌else◌, length, map, position, bytes_eq, AllPairs};
 ghost use Rattle.state_space.specs.Ranges.{form_of, IsGoodRange};
+ghost use Rattle.state_space.specs.Ranges.{size_of};
+ghost use Rattle.state_space.specs.Members.{full_of};
 ghost use Rattle.state_space.specs.OneProof.{IsGoodRange-prop};
 
 use crate::name::Name;
 use crate::range::Range;
-use crate::values::VarId;
-use std::alloc::{AllocFailed, Global};
+use crate::values::{Values, VarId};
+use std::alloc::{AllocError, AllocFailed, Global};
 
 /// Why a variable is not added.
 #[derive(Clone, Copy, Debug, PartialEq, Eq)]
@@ -21,6 +23,16 @@ pub enum AddRefusal {
     TooManyVars,
     /// Memory ran out.
     Memory,
+}
+
+impl From<AllocError> for AddRefusal {
+    ghost use Rattle.state_space.specs.declared.space.AddRefusal.TheVariants.{Memory};
+
+    ghost from_gives = { λ _ e. e ≡ Memory };
+
+    fn from(_: AllocError) -> AddRefusal {
+        AddRefusal::Memory
+    }
 }
 
 impl<T: Drop> From<AllocFailed<T>> for AddRefusal {
@@ -45,8 +57,42 @@ struct Variable {
 #[derive(Debug, Drop)]
 pub struct Space {
     variables: Vec<Variable>,
+    // All value indexes of each variable.
+    full: Vec<Values>,
+    pub ghost whole: { map (λ set. set.0) full.items ≡ full_of (map (λ v. size_of (form_of v.range)) variables.items) },
     pub ghost few: { length variables.items ≤ 64 },
     pub ghost apart: { AllPairs (λ a b. a ≢ b) (map (λ v. v.name) variables.items) },
+}
+
+// All indexes below the size, which is at most 64.
+fn all_below(size: u8) -> Values
+    requires { size ≤ 64 }
+    ensures all { result.0 ≡ 2 ^ size - 1 }
+{
+    if size == 64 {
+        Values(u64::MAX)
+    } else {
+        Values((1 << size) - 1)
+    }
+}
+
+// Appends to both lists, or to none of them.
+fn push_both(
+    variables: &mut Vec<Variable>,
+    variable: Variable,
+    full: &mut Vec<Values>,
+    all: Values,
+) -> Result<(), AllocError>
+    ensures variables { variables.new.items ≡ (if is_ok result then variables.old.items ++ variable ∷ [] else variables.old.items) }
+    ensures full { full.new.items ≡ (if is_ok result then full.old.items ++ all ∷ [] else full.old.items) }
+{
+    full.push(all)?;
+    let pushed = variables.push(variable);
+    if pushed.is_err() {
+        full.pop();
+    }
+    pushed?;
+    Ok(())
 }
 
 // The place of a name among the variables.
@@ -59,7 +105,7 @@ fn place_of(variables: &[Variable], name: &[u8]) -> Option<usize>
 }
 
 impl Space {
-    ghost use Rattle.std.specs.Prelude.{◌<◌, ◌↔◌, [], ◌∷◌, ◌++◌, Some, Contains, IfOk, OnOk, OnErr, IsErrOf, IfSome, IsSome, IsNone, option_map, slice_get, slice_index};
+    ghost use Rattle.std.specs.Prelude.{◌<◌, ◌↔◌, Some, Contains, IfOk, OnOk, OnErr, IsErrOf, IfSome, IsSome, IsNone, option_map, slice_get, slice_index};
     ghost use Rattle.state_space.specs.Spaces.{names, ranges, sizes};
 
     /// The space of no variable. It takes no memory.
@@ -69,6 +115,7 @@ impl Space {
     {
         Space {
             variables: Vec::new(alloc),
+            full: Vec::new(alloc),
         }
     }
 
@@ -118,6 +165,13 @@ impl Space {
         self.range_of(id).size() as u8
     }
 
+    /// For each variable the set of all its value indexes.
+    pub fn full(&self) -> &[Values]
+        ensures full { map (λ set. set.0) result.now ≡ full_of (sizes self.now) }
+    {
+        &self.full
+    }
+
     /// Appends a variable, whose number is the old count. `DuplicateVar` comes exactly where the
     /// name is there, `BadRange` else where the range is not good, `TooManyVars` else where 64
     /// variables are there. After a refusal the space is as it was.
@@ -141,7 +195,9 @@ impl Space {
             return Err(AddRefusal::TooManyVars);
         }
         let id = VarId(self.count());
-        self.variables.push(Variable { name, range })?;
+        let all = all_below(range.size() as u8);
+        let variable = Variable { name, range };
+        push_both(&mut self.variables, variable, &mut self.full, all)?;
         Ok(id)
     }
 }
