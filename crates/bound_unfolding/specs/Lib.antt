@@ -3,3 +3,4 @@ pub mod CoreTree
 pub mod CoreSeen
 pub mod Weights
 pub mod CoreTexts
+pub mod Totals
