@@ -5,7 +5,8 @@ use Rattle.bound_unfolding.specs.CoreForm.{CoreForm, core_until}
 use Rattle.formula_table.specs.Closures.{formula_at, number_in, closure_of}
 use Rattle.tableau_rules.specs.Sets.{has_number, with_number, without_number}
 use Rattle.tableau_rules.specs.Rules.{Change, waits, Rule, clash, changes, fulfils, decided_true, decided_false, rule_of}
-use Rattle.tableau_rules.specs.Nodes.{NodeForm, carries, first_best, chosen, has_empty, todo_rule, node_rule, kid, kids_by, kids, full_of}
+use Rattle.state_space.specs.Members.{full_of}
+use Rattle.tableau_rules.specs.Nodes.{NodeForm, carries, first_best, chosen, has_empty, todo_rule, node_rule, kid, kids_by, kids}
 use Rattle.tableau_rules.specs.Certificates.{is_until}
 use Rattle.tableau_rules.specs.Walks.{FulfilsIn}
 use Rattle.tableau_rules.proofs.Lists.{AnyOf, FirstOf, cond_case, bool_cases, or_left, or_right, or_true, eq_of, eq_to, any_at, some_const, some_source}

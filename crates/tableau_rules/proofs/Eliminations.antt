@@ -7,7 +7,8 @@ use Rattle.temporal_logic.specs.Truth.{Trace}
 use Rattle.temporal_logic.specs.Traces.{TraceFits}
 use Rattle.bound_unfolding.specs.CoreForm.{CoreForm, core_until, CoreTruth}
 use Rattle.formula_table.specs.Closures.{formula_at, number_in, closure_of}
-use Rattle.tableau_rules.specs.Nodes.{NodeForm, chosen, kids, full_of, root_of}
+use Rattle.state_space.specs.Members.{full_of}
+use Rattle.tableau_rules.specs.Nodes.{NodeForm, chosen, kids, root_of}
 use Rattle.tableau_rules.specs.Certificates.{ReasonForm, clash, dead, wait, CertNodeForm, HoldsKids, EachKid, FirstKid, is_until, Waits, IsEliminated, IsValid}
 use Rattle.tableau_rules.specs.Queries.{MeetsAll}
 use Rattle.tableau_rules.proofs.Lists.{AnyOf, FirstOf}

@@ -11,7 +11,8 @@ use Rattle.bound_unfolding.specs.CoreForm.{CoreForm, core_true, core_false, lit,
 use Rattle.bound_unfolding.specs.CoreTree.{core_tree}
 use Rattle.formula_table.specs.Closures.{closure_of}
 use Rattle.tableau_rules.specs.Rules.{is_clash, fulfils}
-use Rattle.tableau_rules.specs.Nodes.{NodeForm, carries, chosen, node_rule, kids, full_of, root_of}
+use Rattle.state_space.specs.Members.{full_of}
+use Rattle.tableau_rules.specs.Nodes.{NodeForm, carries, chosen, node_rule, kids, root_of}
 use Rattle.tableau_rules.specs.Certificates.{wait, CertNodeForm, HoldsKids, Waits, IsEliminated, IsOfQuery, IsValid}
 use Rattle.tableau_rules.specs.Queries.{MeetsAll}
 use Rattle.tableau_rules.proofs.KidMeetings.{mk}

@@ -8,7 +8,8 @@ use Rattle.std.proofs.lemmas.Nat.Bits.{bit_at_and, bit_at-lt, bit_at-zero, bit_a
 use Rattle.temporal_logic.specs.Truth.{Trace}
 use Rattle.temporal_logic.specs.Traces.{TraceFits}
 use Rattle.tableau_rules.specs.Rules.{inside, apart}
-use Rattle.tableau_rules.specs.Nodes.{has_empty, met_with, met_with_all, full_of}
+use Rattle.state_space.specs.Members.{full_of}
+use Rattle.tableau_rules.specs.Nodes.{has_empty, met_with, met_with_all}
 use Rattle.tableau_rules.specs.Meeting.{IndexesLie}
 use Rattle.tableau_rules.proofs.Lists.{or_true, eq_of, each_map}
 

@@ -3,10 +3,10 @@ use Rattle.std.proofs.Common.{◌≡◌, ◌≢◌, ◌↔◌, ℕ, zero, suc, �
 use Rattle.bound_unfolding.specs.CoreForm.{CoreForm}
 use Rattle.formula_table.specs.Closures.{is_same, formula_at, number_in}
 use Rattle.formula_table.specs.Distinct.{IsMember, IsDistinct}
-use Rattle.tableau_rules.specs.declared.rule.Effect.{Effect}
-use Rattle.tableau_rules.specs.declared.rule.Effect.TheVariants.{Nothing, Adds, AddsBoth, Waits, Later, Meets}
-use Rattle.tableau_rules.specs.declared.rule.Turn.{Turn}
-use Rattle.tableau_rules.specs.declared.rule.Turn.TheVariants.{Clash, Step, One, Two, FulfilOnly, WaitOnly, FulfilOrWait}
+use Rattle.tableau_rules.specs.declared.effect.Effect.{Effect}
+use Rattle.tableau_rules.specs.declared.effect.Effect.TheVariants.{Nothing, Adds, AddsBoth, Waits, Later, Meets}
+use Rattle.tableau_rules.specs.declared.effect.Turn.{Turn}
+use Rattle.tableau_rules.specs.declared.effect.Turn.TheVariants.{Clash, Step, One, Two, FulfilOnly, WaitOnly, FulfilOrWait}
 use Rattle.tableau_rules.specs.Sets.{with_number, without_number}
 use Rattle.tableau_rules.specs.Turns.{change_of, rule_in, effects_of, EffectBelow, TurnBelow}
 use Rattle.tableau_rules.specs.Nodes.{NodeForm, chosen, node_rule, kid, stepped, kids_by, kids}

@@ -29,3 +29,10 @@ pub mod QueryClosures
 pub mod ChosenFormulas
 pub mod SetMeetings
 pub mod KidLists
+pub mod QueryNodes
+pub mod PlaceTests
+pub mod Passes
+pub mod Linked
+pub mod LinkLists
+pub mod NodeEquality
+pub mod Sizes

@@ -6,7 +6,8 @@ use Rattle.temporal_logic.specs.Ltl.{flag, eventually}
 use Rattle.bound_unfolding.specs.CoreForm.{CoreForm}
 use Rattle.bound_unfolding.specs.CoreTree.{core_tree}
 use Rattle.formula_table.specs.Closures.{closure_of}
-use Rattle.tableau_rules.specs.Nodes.{NodeForm, kids, full_of}
+use Rattle.state_space.specs.Members.{full_of}
+use Rattle.tableau_rules.specs.Nodes.{NodeForm, kids}
 use Rattle.tableau_rules.specs.Queries.{IsOver}
 use Rattle.tableau_rules.specs.Walks.{node_at, IsClosedWalk, IsAnswer}
 use Rattle.tableau_rules.proofs.KidMeetings.{mk}

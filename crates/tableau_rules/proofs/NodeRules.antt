@@ -8,7 +8,8 @@ use Rattle.temporal_logic.proofs.Decided.{truth_decided}
 use Rattle.bound_unfolding.specs.CoreForm.{CoreForm, core_release, as_ltl, CoreTruth}
 use Rattle.formula_table.specs.Closures.{formula_at, closure_of}
 use Rattle.tableau_rules.specs.Rules.{Change, Rule, clash, step, one, two, fulfil_only, wait_only, fulfil_or_wait, changes, is_clash, rule_of}
-use Rattle.tableau_rules.specs.Nodes.{NodeForm, first_best, chosen, has_empty, todo_rule, node_rule, kid, stepped, kids_by, kids, full_of}
+use Rattle.state_space.specs.Members.{full_of}
+use Rattle.tableau_rules.specs.Nodes.{NodeForm, first_best, chosen, has_empty, todo_rule, node_rule, kid, stepped, kids_by, kids}
 use Rattle.tableau_rules.specs.Meeting.{MeetsNode, KeepsMeeting}
 use Rattle.tableau_rules.specs.Queries.{IsOver}
 use Rattle.tableau_rules.proofs.Lists.{AnyOf, cond_case, some_map, any_from_of, of_from_any}

@@ -3,8 +3,8 @@ use Rattle.std.proofs.Common.{◌≡◌, ◌≢◌, ◌↔◌, MatchBool, nat_eq
 use Rattle.std.specs.Cmp.Lexicographic.{pointwise, told_text}
 use Rattle.std.specs.Prelude.{slice_index_or}
 use Rattle.state_space.specs.declared.values.Values.{Values}
-use Rattle.tableau_rules.specs.declared.rule.Effect.{Effect}
-use Rattle.tableau_rules.specs.declared.rule.Effect.TheVariants.{Meets}
+use Rattle.tableau_rules.specs.declared.effect.Effect.{Effect}
+use Rattle.tableau_rules.specs.declared.effect.Effect.TheVariants.{Meets}
 use Rattle.tableau_rules.specs.Nodes.{met_with}
 use Rattle.tableau_rules.specs.Turns.{sets_of}
 use Rattle.tableau_rules.specs.KidsSeen.{met_by, set_by}

@@ -14,7 +14,8 @@ use Rattle.temporal_logic.specs.Rows.{from_lists}
 use Rattle.bound_unfolding.specs.CoreForm.{CoreForm, CoreTruth}
 use Rattle.formula_table.specs.Closures.{formula_at, number_in, closure_of}
 use Rattle.tableau_rules.specs.Sets.{has_number}
-use Rattle.tableau_rules.specs.Nodes.{NodeForm, kids, full_of}
+use Rattle.state_space.specs.Members.{full_of}
+use Rattle.tableau_rules.specs.Nodes.{NodeForm, kids}
 use Rattle.tableau_rules.specs.Certificates.{is_until}
 use Rattle.tableau_rules.specs.Queries.{IsOver}
 use Rattle.tableau_rules.specs.Walks.{no_node, node_at, Settles, IsClosedWalk, least_index, is_empty, states, IsAnswer}

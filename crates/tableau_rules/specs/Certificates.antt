@@ -5,7 +5,8 @@ use Rattle.std.specs.List.Sorted.{IsStrictlyIncreasing}
 use Rattle.bound_unfolding.specs.CoreForm.{CoreForm, core_until}
 use Rattle.formula_table.specs.Closures.{formula_at, closure_of}
 use Rattle.tableau_rules.specs.Rules.{is_clash, fulfils}
-use Rattle.tableau_rules.specs.Nodes.{NodeForm, carries, chosen, node_rule, kids, full_of, root_of}
+use Rattle.state_space.specs.Members.{full_of}
+use Rattle.tableau_rules.specs.Nodes.{NodeForm, carries, chosen, node_rule, kids, root_of}
 
 -- the node's own rule, its kids, or an until that is put off for ever
 pub data ReasonForm : Type 0 where

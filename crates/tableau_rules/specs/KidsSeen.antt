@@ -1,9 +1,9 @@
 -- Kids over numbers of a table: what an effect makes of a node.
 use Rattle.std.specs.Prelude.{ℕ, List, length, Option, Some, None, ◌==◌, if◌then◌else◌, bit_and}
-use Rattle.tableau_rules.specs.declared.rule.Effect.{Effect}
-use Rattle.tableau_rules.specs.declared.rule.Effect.TheVariants.{Adds, AddsBoth, Waits, Later, Meets}
-use Rattle.tableau_rules.specs.declared.rule.Turn.{Turn}
-use Rattle.tableau_rules.specs.declared.rule.Turn.TheVariants.{Step}
+use Rattle.tableau_rules.specs.declared.effect.Effect.{Effect}
+use Rattle.tableau_rules.specs.declared.effect.Effect.TheVariants.{Adds, AddsBoth, Waits, Later, Meets}
+use Rattle.tableau_rules.specs.declared.effect.Turn.{Turn}
+use Rattle.tableau_rules.specs.declared.effect.Turn.TheVariants.{Step}
 use Rattle.tableau_rules.specs.Sets.{with_option, changed}
 use Rattle.tableau_rules.specs.Nodes.{NodeForm, met_with}
 use Rattle.tableau_rules.specs.Turns.{effects_of}

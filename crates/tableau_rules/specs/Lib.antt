@@ -12,3 +12,10 @@ pub mod QuerySeen
 pub mod NodeSeen
 pub mod KidsSeen
 pub mod CertSeen
+pub mod Kinds
+pub mod Graphs
+pub mod GraphSeen
+pub mod Surviving
+pub mod Answers
+pub mod Links
+pub mod Levels

@@ -1,5 +1,5 @@
 -- Nodes of the tableau, and the kids that the rules give them.
-use Rattle.std.specs.Prelude.{ℕ, zero, suc, ◌-◌, ◌^◌, Bool, false, List, [], ◌∷◌, map, nat_lt, ◌==◌, ◌||◌, if◌then◌else◌, bit_and}
+use Rattle.std.specs.Prelude.{ℕ, zero, suc, Bool, false, List, [], ◌∷◌, map, nat_lt, ◌==◌, ◌||◌, if◌then◌else◌, bit_and}
 use Rattle.bound_unfolding.specs.CoreForm.{CoreForm}
 use Rattle.formula_table.specs.Closures.{formula_at, number_in}
 use Rattle.tableau_rules.specs.Sets.{has_number, with_number, without_number}
@@ -73,10 +73,6 @@ kids_by closure full n rule = map (kid closure n (chosen closure n.todo)) (chang
 
 abbrev pub kids : List CoreForm → List ℕ → NodeForm → List NodeForm
 kids closure full n = kids_by closure full n (node_rule closure n)
-
--- all indexes of each variable
-abbrev pub full_of : List ℕ → List ℕ
-full_of sizes = map (λ size. 2 ^ size - 1) sizes
 
 -- the node that asks for all of the cores
 abbrev pub root_of : List CoreForm → List ℕ → List CoreForm → NodeForm

@@ -4,10 +4,10 @@ use Rattle.state_space.specs.declared.values.Values.{Values}
 use Rattle.bound_unfolding.specs.CoreForm.{CoreForm}
 use Rattle.formula_table.specs.Closures.{formula_at}
 use Rattle.tableau_rules.specs.Rules.{Change, Rule, nothing, adds, waits, clash, step, one, two, fulfil_only, wait_only, fulfil_or_wait}
-use Rattle.tableau_rules.specs.declared.rule.Effect.{Effect}
-use Rattle.tableau_rules.specs.declared.rule.Effect.TheVariants.{Nothing, Adds, AddsBoth, Waits, Later, Meets}
-use Rattle.tableau_rules.specs.declared.rule.Turn.{Turn}
-use Rattle.tableau_rules.specs.declared.rule.Turn.TheVariants.{Clash, Step, One, Two, FulfilOnly, WaitOnly, FulfilOrWait}
+use Rattle.tableau_rules.specs.declared.effect.Effect.{Effect}
+use Rattle.tableau_rules.specs.declared.effect.Effect.TheVariants.{Nothing, Adds, AddsBoth, Waits, Later, Meets}
+use Rattle.tableau_rules.specs.declared.effect.Turn.{Turn}
+use Rattle.tableau_rules.specs.declared.effect.Turn.TheVariants.{Clash, Step, One, Two, FulfilOnly, WaitOnly, FulfilOrWait}
 
 -- the sets as numbers
 abbrev pub sets_of : List Values → List ℕ

@@ -6,7 +6,8 @@ use Rattle.temporal_logic.specs.Rows.{from_lists}
 use Rattle.bound_unfolding.specs.CoreForm.{CoreForm}
 use Rattle.formula_table.specs.Closures.{formula_at, closure_of}
 use Rattle.tableau_rules.specs.Rules.{fulfils}
-use Rattle.tableau_rules.specs.Nodes.{NodeForm, carries, chosen, node_rule, kids, full_of, root_of}
+use Rattle.state_space.specs.Members.{full_of}
+use Rattle.tableau_rules.specs.Nodes.{NodeForm, carries, chosen, node_rule, kids, root_of}
 use Rattle.tableau_rules.specs.Certificates.{is_until}
 use Rattle.tableau_rules.specs.Queries.{MeetsAll}
 

@@ -3,12 +3,18 @@
 
 ghost use Rattle.std.specs.Int.{bit_at};
 ghost use Rattle.std.specs.List.Sorted.{IsStrictlyIncreasing};
-ghost use Rattle.std.specs.Prelude.{◌≡◌, ℕ, ◌+◌, ◌*◌, ◌/◌, ◌^◌, ◌<◌, ◌≤◌, ◌↔◌, ◌⊎◌, IsTrue, false, [], All, OnOk, OnErr, IfSome, IfNone, IfOk, ◌∷◌, MatchOption, length, slice_index, ◌==◌, ◌||◌, ◌&&◌, not, vec_len};
+ghost use Rattle.std.specs.Prelude.{◌≡◌, ℕ, ◌+◌, ◌*◌, ◌/◌, ◌^◌, ◌<◌, ◌≤◌, ◌↔◌, ◌⊎◌, IsTrue, false, [], All, OnOk, OnErr, IfSome, IfNone, IfOk, ◌∷◌, MatchOption, length, slice_index, ◌==◌, ◌||◌, ◌&&◌, not, vec_len, nat_eq, flat_map};
+ghost use Rattle.std.specs.Hash as fed;
+ghost use Rattle.std.specs.Cmp.Lexicographic.{pointwise};
+ghost use Rattle.std.specs.Cmp.Rules.{comparing};
+ghost use Rattle.std.proofs.Common.{rules, ap};
+ghost use Rattle.std.proofs.lemmas.Slice.Eq.{bytes_eq-Decides};
 ghost use Rattle.tableau_rules.specs.Sets.{has_number, with_number, without_number, numbers_from, least_from, changed};
 ghost use Rattle.tableau_rules.specs.Words.{has_bit, numbers_of, is_given, bit_after, IsTrimmed};
 
 use source_sink::Memory;
 use std::alloc::Global;
+use std::hash::{Hash, Hasher};
 use std::marker::Model;
 
 /// A set of numbers below 65,536.
@@ -317,5 +323,36 @@ impl Bits {
         ensures { IsTrue result ↔ (self.now ≡ changed gone first second old.now) }
     {
         is_after(&old.words, gone, first, second, &self.words)
+    }
+}
+
+impl PartialEq for Bits {
+    ghost eq = { pointwise nat_eq };
+
+    ghost laws = { Prim.search (comparing, rules) };
+
+    fn eq(&self, other: &Bits) -> bool {
+        self.same(other)
+    }
+}
+
+impl Eq for Bits {
+    ghost laws = { Prim.search (comparing, rules) };
+}
+
+impl Hash for Bits {
+    ghost hash_input = { λ s. flat_map fed.u16 s };
+
+    ghost respects_eq = { λ a b h. ap (flat_map fed.u16) ((bytes_eq-Decides a b).0 h) };
+
+    fn hash<H: Hasher>(&self, state: &mut H) {
+        let mut from = 0;
+        'numbers: while let Some(number) = self.least_from(from) {
+            state.write_u16(number);
+            if number == u16::MAX {
+                return;
+            }
+            from = number + 1;
+        }
     }
 }

@@ -9,7 +9,7 @@ ghost use Rattle.tableau_rules.specs.Rules.{inside, apart, decided_true, decided
 ghost use Rattle.tableau_rules.specs.Nodes.{has_empty};
 ghost use Rattle.tableau_rules.specs.Turns.{sets_of, rule_in, TurnBelow};
 
-use crate::rule::{Effect, Turn};
+use crate::effect::{Effect, Turn};
 use formula_table::{FormulaId, Shape, Table};
 use state_space::{Values, VarId};
 

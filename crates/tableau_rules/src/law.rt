@@ -1,15 +1,17 @@
 //! The laws of the tableau. Each is the contract of a function that does nothing, so that the check
 //! proves it.
 
-ghost use Rattle.std.specs.Prelude.{◌≡◌, ℕ, ◌≤◌, ◌⊎◌, List, length, Contains, IsTrue};
+ghost use Rattle.std.specs.Prelude.{◌≡◌, ℕ, ◌<◌, ◌≤◌, ◌⊎◌, List, length, Contains, IsTrue};
 ghost use Rattle.std.specs.List.{All};
 ghost use Rattle.temporal_logic.specs.Truth.{Trace};
 ghost use Rattle.temporal_logic.specs.Traces.{TraceFits, IsPeriodic};
 ghost use Rattle.bound_unfolding.specs.CoreForm.{CoreForm};
 ghost use Rattle.formula_table.specs.Closures.{formula_at, closure_of};
-ghost use Rattle.tableau_rules.specs.Nodes.{NodeForm, carries, node_rule, kids, full_of};
+ghost use Rattle.state_space.specs.Members.{full_of};
+ghost use Rattle.tableau_rules.specs.Nodes.{NodeForm, carries, node_rule, kids};
 ghost use Rattle.tableau_rules.specs.Meeting.{KeepsMeeting};
-ghost use Rattle.tableau_rules.specs.Certificates.{CertNodeForm, is_until, IsValid};
+ghost use Rattle.tableau_rules.specs.Certificates.{CertNodeForm, is_until, IsOfQuery, IsValid};
+ghost use Rattle.tableau_rules.specs.Graphs.{IsReached, HasSize, IsLarger, GraphNodeForm, IsWhole};
 ghost use Rattle.tableau_rules.specs.Queries.{IsOver, MeetsAll};
 ghost use Rattle.tableau_rules.specs.Walks.{FulfilsIn, IsClosedWalk, states, IsAnswer};
 
@@ -46,4 +48,21 @@ pub fn law_of_carrying()
         → (n m : NodeForm) → IsTrue (carries e n)
         → Contains (kids (closure_of cores) (full_of sizes) n) m
         → FulfilsIn (closure_of cores) (full_of sizes) e n m ⊎ IsTrue (carries e m) }
+{}
+
+/// Each node that the root of a query leads to is a node of the query.
+pub fn law_of_nodes()
+    ensures of_query { (sizes : List ℕ) (cores : List CoreForm) (n : NodeForm)
+        → IsReached sizes cores n → IsOfQuery sizes (closure_of cores) n }
+{}
+
+/// A query has one size at most. It is over each budget that the query is larger than, and it is
+/// how many nodes a whole graph has.
+pub fn law_of_sizes()
+    ensures one { (sizes : List ℕ) (cores : List CoreForm) (m n : ℕ)
+        → HasSize sizes cores m → HasSize sizes cores n → m ≡ n }
+    ensures over { (sizes : List ℕ) (cores : List CoreForm) (size budget : ℕ)
+        → HasSize sizes cores size → IsLarger sizes cores budget → budget < size }
+    ensures whole { (sizes : List ℕ) (cores : List CoreForm) (graph : List GraphNodeForm)
+        → IsWhole sizes cores graph → HasSize sizes cores (length graph) }
 {}

@@ -3,28 +3,42 @@
 //! laws that tie all three to truth.
 #![tactic(auto)]
 
+mod answer;
 mod bits;
 mod certificate;
+mod effect;
 mod formula_rule;
-mod kid;
+mod graph;
+mod kids;
+mod kind;
 mod law;
+mod level;
+mod link;
 mod node;
 mod query;
-mod rule;
+mod tableau;
 
+pub use answer::{Answer, Answerer};
 pub use bits::Bits;
 pub use certificate::{Cert, CertNode, Mark, Reason};
-pub use kid::{is_kid_of, kid_count, kid_of};
-pub use law::{law_of_carrying, law_of_certificates, law_of_the_rule, law_of_walks};
+pub use effect::{Effect, Turn};
+pub use graph::{Graph, GraphNode};
+pub use kids::{is_kid_of, kid_count, kid_of};
+pub use kind::RuleKind;
+pub use law::{
+    law_of_carrying, law_of_certificates, law_of_nodes, law_of_sizes, law_of_the_rule, law_of_walks,
+};
+pub use level::{does_fulfil, levels};
+pub use link::{Kids, Link, does_carry, links_of};
 pub use node::{Node, turn};
 pub use query::Query;
-pub use rule::{Effect, Turn};
+pub use tableau::{is_kid, is_root, kid, root, rule};
 
 #[cfg(test)]
-mod kid_tests;
+mod effect_tests;
+#[cfg(test)]
+mod kids_tests;
 #[cfg(test)]
 mod query_tests;
-#[cfg(test)]
-mod rule_tests;
 #[cfg(test)]
 mod tests;

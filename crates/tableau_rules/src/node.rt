@@ -8,13 +8,13 @@ ghost use Rattle.tableau_rules.specs.NodeSeen.{node_of, AreNumbersBelow};
 ghost use Rattle.tableau_rules.specs.Turns.{rule_in, TurnBelow};
 
 use crate::bits::Bits;
+use crate::effect::Turn;
 use crate::formula_rule::{class_of, formula_rule, has_empty};
-use crate::rule::Turn;
 use formula_table::{FormulaId, Table};
 use state_space::Values;
 
 /// What is asked of a trace from a position on. Formulas are given by their numbers in a table.
-#[derive(Drop)]
+#[derive(PartialEq, Eq, Hash, Drop)]
 pub struct Node {
     /// The formulas that are to be true now.
     pub todo: Bits,
