@@ -1,7 +1,8 @@
 -- What no cause means, and how the first cause is found place by place.
-use Rattle.std.proofs.Common.{◌≡◌, ◌≢◌, ℕ, zero, suc, ◌+◌, ◌<◌, ◌⊎◌, ◌↔◌, inl, inr, Bool, true, false, not, List, [], ◌∷◌, IsTrue, Option, Some, None, cond, nat_lt, ◌==◌, ◌&&◌, ◌||◌, length, get_or, map, drop, drop-cons, refl, sym, ap, ap₂, ◌∙◌, subst, true≢false, arith}
+use Rattle.std.proofs.Common.{◌≡◌, ◌≢◌, ℕ, zero, suc, ◌+◌, ◌-◌, ◌<◌, ◌≤◌, ◌⊎◌, ◌↔◌, inl, inr, Bool, true, false, not, List, [], ◌∷◌, IsTrue, Option, Some, None, cond, nat_lt, ◌==◌, ◌&&◌, ◌||◌, length, get_or, map, take, drop, drop-cons, refl, sym, ap, ap₂, ◌∙◌, subst, true≢false, arith}
 use Rattle.std.specs.Prelude.{slice_get}
 use Rattle.std.specs.List.{AllByRecursion as Each}
+use Rattle.std.proofs.lemmas.List.{take_all}
 use Rattle.std.proofs.lemmas.List.Elements.{All-from_recursion}
 use Rattle.bound_unfolding.specs.CoreForm.{CoreForm}
 use Rattle.formula_table.specs.Closures.{formula_at}
@@ -239,7 +240,7 @@ get_mapped f [] k d l e = absurd (omega arith)
 get_mapped f (x ∷ xs) zero d l e = ap (λ y. Some (f y)) (sym e)
 get_mapped f (x ∷ xs) (suc k) d l e = get_mapped f xs k d (omega arith) e
 
-cause_none : (cl : List CoreForm) (full : List ℕ) (start : NodeForm) (cert : List CertNodeForm) (k : ℕ) (c : CertNodeForm) (rest cs : List CertNodeForm) → cs ≡ c ∷ rest → None ≡ cause cl full start cert k c
+pub cause_none : (cl : List CoreForm) (full : List ℕ) (start : NodeForm) (cert : List CertNodeForm) (k : ℕ) (c : CertNodeForm) (rest cs : List CertNodeForm) → cs ≡ c ∷ rest → None ≡ cause cl full start cert k c
     → first_cause cl full start cert (k + 1) rest ≡ first_cause cl full start cert k cs
 cause_none cl full start cert k c rest cs e h =
     let a : k + 1 ≡ suc k = omega arith in
@@ -254,11 +255,25 @@ pub fault_is : (cl : List CoreForm) (full : List ℕ) (start : NodeForm) (cert :
 fault_is cl full start [] n = absurd (n refl)
 fault_is cl full start (c ∷ cs) n = refl
 
-pub cause_none_at : (cl : List CoreForm) (full : List ℕ) (start : NodeForm) (cert : List CertNodeForm) (k : ℕ) (c : CertNodeForm) → drop k cert ≡ c ∷ drop (suc k) cert → None ≡ cause cl full start cert k c
-    → first_cause cl full start cert (k + 1) (drop (k + 1) cert) ≡ first_cause cl full start cert k (drop k cert)
-cause_none_at cl full start cert k c e h =
-    let a : k + 1 ≡ suc k = omega arith in
-    ap (λ j. first_cause cl full start cert (k + 1) (drop j cert)) a ∙ cause_none cl full start cert k c (drop (suc k) cert) (drop k cert) e h
+pub taken : (cert : List CertNodeForm) (k to : ℕ) (c : CertNodeForm) → k < to → drop k cert ≡ c ∷ drop (suc k) cert → take (to - k) (drop k cert) ≡ c ∷ take (to - (k + 1)) (drop (k + 1) cert)
+taken cert k to c l e =
+    let n : to - k ≡ suc (to - (k + 1)) = omega arith in
+    let m : suc k ≡ k + 1 = omega arith in
+    ap (λ j. take j (drop k cert)) n ∙ (ap (take (suc (to - (k + 1)))) e ∙ ap (λ j. c ∷ take (to - (k + 1)) (drop j cert)) m)
+
+-- those from k on up to a place, where the one at k has no cause
+pub range_step : (cl : List CoreForm) (full : List ℕ) (start : NodeForm) (cert : List CertNodeForm) (k to : ℕ) (c : CertNodeForm) → k < to → drop k cert ≡ c ∷ drop (suc k) cert → None ≡ cause cl full start cert k c
+    → first_cause cl full start cert (k + 1) (take (to - (k + 1)) (drop (k + 1) cert)) ≡ first_cause cl full start cert k (take (to - k) (drop k cert))
+range_step cl full start cert k to c l e h =
+    cause_none cl full start cert k c (take (to - (k + 1)) (drop (k + 1) cert)) (take (to - k) (drop k cert)) (taken cert k to c l e) h
+
+-- with no place left there is no cause
+pub range_end : (cl : List CoreForm) (full : List ℕ) (start : NodeForm) (cert : List CertNodeForm) (k to : ℕ) → to ≤ k → first_cause cl full start cert k (take (to - k) (drop k cert)) ≡ None
+range_end cl full start cert k to l = let n : to - k ≡ 0 = omega arith in ap (λ j. first_cause cl full start cert k (take j (drop k cert))) n
+
+-- all places
+pub range_all : (cl : List CoreForm) (full : List ℕ) (start : NodeForm) (cert : List CertNodeForm) (n : ℕ) → cert ≢ [] → n ≡ length cert → first_fault cl full start cert ≡ first_cause cl full start cert 0 (take (n - 0) (drop 0 cert))
+range_all cl full start cert n some e = fault_is cl full start cert some ∙ ap (first_cause cl full start cert 0) (sym (take_all (n - 0) cert (omega (arith, e))))
 
 pub mapped_some : {X Y : Type 0} (f : X → Y) (xs : List X) (k : ℕ) → k < length xs → map f xs ≢ []
 mapped_some f [] k l = absurd (omega arith)

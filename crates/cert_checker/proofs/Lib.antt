@@ -1,3 +1,4 @@
 pub mod Causes
 pub mod Shapes
 pub mod Validity
+pub mod Passing

@@ -1,17 +1,18 @@
 -- A certificate in which no node is bad is valid.
-use Rattle.std.proofs.Common.{◌≡◌, ℕ, zero, suc, ◌+◌, ◌<◌, ◌≤◌, ◌-◌, ◌^◌, List, [], ◌∷◌, IsTrue, Option, Some, None, ◌==◌, ◌&&◌, length, map, bit_and, refl, sym, ap, ap₂, ◌∙◌, subst, arith}
+use Rattle.std.proofs.Common.{◌≡◌, ℕ, zero, suc, ◌+◌, ◌<◌, ◌≤◌, ◌-◌, ◌^◌, List, [], ◌∷◌, IsTrue, Some, None, ◌==◌, ◌&&◌, length, map, bit_and, inl, inr, refl, sym, ap, ◌∙◌, subst, arith}
 use Rattle.std.specs.Prelude.{slice_get, slice_index, All}
 use Rattle.std.proofs.lemmas.List.Elements.{All-from_recursion}
+use Rattle.std.proofs.lemmas.Bool.{cases_lt}
 use Rattle.std.proofs.lemmas.Nat.{and_le_r}
 use Rattle.std.proofs.Math.Pow.{pow-sub-lt}
 use Rattle.bound_unfolding.specs.CoreForm.{CoreForm}
 use Rattle.formula_table.specs.Closures.{closure_of}
-use Rattle.tableau_rules.specs.Nodes.{NodeForm, full_of, root_of, with_numbers_of}
+use Rattle.state_space.specs.Members.{full_of}
+use Rattle.tableau_rules.specs.Nodes.{NodeForm, root_of}
 use Rattle.tableau_rules.specs.Certificates.{CertNodeForm, IsOfQuery, IsValid}
 use Rattle.tableau_rules.proofs.Lists.{and_true, eq_of}
-use Rattle.cert_checker.specs.declared.why.Why.{Why}
-use Rattle.cert_checker.specs.Causes.{all_below, are_inside, has_shape, first_fault}
-use Rattle.cert_checker.specs.Entries.{IsAscending, root_by, fault_of}
+use Rattle.cert_checker.specs.Causes.{all_below, are_inside, has_shape}
+use Rattle.cert_checker.specs.Entries.{IsAscending, fault_of}
 use Rattle.cert_checker.proofs.Causes.{all_good}
 use Rattle.cert_checker.proofs.Shapes.{each_below, inside_length}
 
@@ -71,28 +72,18 @@ valid_of sizes cores (c ∷ cs) h a =
       reason = λ k d e. (g k d e).right;
     }
 
-pub fault_in : (full : List ℕ) (cores cl : List CoreForm) (start : List ℕ) (cert : List CertNodeForm) (o : Option (ℕ × Why)) → cl ≡ closure_of cores → start ≡ with_numbers_of (closure_of cores) cores []
-    → first_fault cl full (root_by start full) cert ≡ o → fault_of full cores cert ≡ o
-fault_in full cores cl start cert o e f h = sym (ap₂ (λ k s. first_fault k full (root_by s full) cert) e f) ∙ h
-
-pub ascending_step : (cs : List CertNodeForm) (k : ℕ) (d : CertNodeForm) → slice_get cs k ≡ Some d → IsAscending d.node
-    → ((j : ℕ) (c : CertNodeForm) → j < k → slice_get cs j ≡ Some c → IsAscending c.node)
-    → (j : ℕ) (c : CertNodeForm) → j < k + 1 → slice_get cs j ≡ Some c → IsAscending c.node
-ascending_step [] k d h a i j c l e = absurd (cc)
-ascending_step (x ∷ xs) zero d h a i zero c l e = let q : d ≡ c = cc in subst (λ (y : CertNodeForm). IsAscending y.node) q a
-ascending_step (x ∷ xs) zero d h a i (suc j) c l e = absurd (omega arith)
-ascending_step (x ∷ xs) (suc k) d h a i zero c l e = i 0 c (omega arith) e
-ascending_step (x ∷ xs) (suc k) d h a i (suc j) c l e = ascending_step xs k d h a (λ j c l e. i (suc j) c (omega arith) e) j c (omega arith) e
-
-pub valid_in : (sizes full : List ℕ) (cores cl : List CoreForm) (start : List ℕ) (seen cert : List CertNodeForm) → full ≡ full_of sizes
-    → cl ≡ closure_of cores → start ≡ with_numbers_of (closure_of cores) cores [] → seen ≡ cert
-    → first_fault cl full (root_by start full) seen ≡ None
-    → ((j : ℕ) (c : CertNodeForm) → slice_get seen j ≡ Some c → IsAscending c.node) → IsValid sizes cores cert
-valid_in sizes full cores cl start seen cert e f g q h a =
-    valid_of sizes cores cert
-    (subst (λ (k : List ℕ). fault_of k cores cert ≡ None) e
-    (fault_in full cores cl start cert None f g (subst (λ (x : List CertNodeForm). first_fault cl full (root_by start full) x ≡ None) q h)))
-    (subst (λ (x : List CertNodeForm). (j : ℕ) (c : CertNodeForm) → slice_get x j ≡ Some c → IsAscending c.node) q a)
+-- a node more, where the ones from a place on are ascending
+pub ascending_step : (cs : List CertNodeForm) (from k : ℕ) (d : CertNodeForm) → slice_get cs k ≡ Some d → IsAscending d.node
+    → ((j : ℕ) (c : CertNodeForm) → from ≤ j → j < k → slice_get cs j ≡ Some c → IsAscending c.node)
+    → (j : ℕ) (c : CertNodeForm) → from ≤ j → j < k + 1 → slice_get cs j ≡ Some c → IsAscending c.node
+ascending_step cs from k d h a i j c f l e = elim (cases_lt j k) [
+  | inl m ↦ i j c f m e
+  | inr m ↦
+      let q : j ≡ k = omega (arith, l, m) in
+      let s : Some d ≡ Some c = sym h ∙ (ap (slice_get cs) (sym q) ∙ e) in
+      let t : d ≡ c = cc in
+      subst (λ (x : CertNodeForm). IsAscending x.node) t a
+]
 
 pub within : {X Y : Type 0} (f : X → Y) (xs : List X) (k j : ℕ) (y : Y) → length xs ≤ k → slice_get (map f xs) j ≡ Some y → j < k
 within f [] k j y l e = absurd (cc)

@@ -1,5 +1,5 @@
 -- Nodes of a certificate by their parts.
-use Rattle.std.specs.Prelude.{ℕ, List, [], Option, map}
+use Rattle.std.specs.Prelude.{ℕ, ◌-◌, List, Option, map, take, drop}
 use Rattle.std.specs.List.Sorted.{IsStrictlyIncreasing}
 use Rattle.bound_unfolding.specs.CoreForm.{CoreForm}
 use Rattle.formula_table.specs.Closures.{closure_of}
@@ -11,7 +11,7 @@ use Rattle.tableau_rules.specs.NodeSeen.{node_of}
 use Rattle.tableau_rules.specs.CertSeen.{reason_of, cert_node_of}
 use Rattle.tableau_rules.specs.Certificates.{CertNodeForm}
 use Rattle.cert_checker.specs.declared.why.Why.{Why}
-use Rattle.cert_checker.specs.Causes.{first_fault}
+use Rattle.cert_checker.specs.Causes.{first_cause, first_fault}
 
 -- the node with these kids and this mark
 abbrev pub entry_by : Node → List ℕ → Mark → CertNodeForm
@@ -19,10 +19,6 @@ entry_by node kids mark = record { node = node_of node; kids = kids; rank = mark
 
 abbrev pub entries_of : List CertNode → List CertNodeForm
 entries_of cert = map cert_node_of cert
-
--- the root where these are to be true at first
-abbrev pub root_by : List ℕ → List ℕ → NodeForm
-root_by start full = record { todo = start; now = full; next = [] }
 
 -- the node's formulas are in ascending order
 pub record IsAscending (node : NodeForm) : Type 0 where
@@ -32,3 +28,8 @@ pub record IsAscending (node : NodeForm) : Type 0 where
 -- the first bad node of a certificate for these cores, and its first cause
 abbrev pub fault_of : List ℕ → List CoreForm → List CertNodeForm → Option (ℕ × Why)
 fault_of full cores cert = first_fault (closure_of cores) full (root_of (closure_of cores) full cores) cert
+
+-- the first bad node of those from a place on up to another, and its first cause
+abbrev pub fault_in : List ℕ → List CoreForm → List CertNodeForm → ℕ → ℕ → Option (ℕ × Why)
+fault_in full cores cert from to =
+    first_cause (closure_of cores) full (root_of (closure_of cores) full cores) cert from (take (to - from) (drop from cert))

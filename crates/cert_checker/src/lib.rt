@@ -8,7 +8,7 @@ mod node_shape;
 mod reason;
 mod why;
 
-pub use checking::check;
+pub use checking::{check, check_range};
 pub use why::{BadMark, Why};
 
 #[cfg(test)]

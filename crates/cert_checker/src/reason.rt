@@ -1,21 +1,19 @@
 //! Whether the reason holds for which a node is eliminated.
 
-ghost use Rattle.std.specs.Prelude.{◌≡◌, ◌≤◌, ◌<◌, List, length, slice_get};
-ghost use Rattle.bound_unfolding.specs.CoreForm.{CoreForm};
-ghost use Rattle.formula_table.specs.Closures.{formula_at};
-ghost use Rattle.formula_table.specs.Tables.{closure_in};
+ghost use Rattle.std.specs.Prelude.{◌≡◌, ℕ, ◌==◌, ◌&&◌, ◌≤◌, ◌<◌, length, slice_get};
+ghost use Rattle.formula_table.specs.Closures.{formula_at, closure_of};
 ghost use Rattle.tableau_rules.specs.Certificates.{is_until};
-ghost use Rattle.tableau_rules.specs.Rules.{is_clash, fulfils};
+ghost use Rattle.tableau_rules.specs.Rules.{Rule, is_clash, fulfils};
 ghost use Rattle.tableau_rules.specs.NodeSeen.{AreNumbersBelow};
-ghost use Rattle.tableau_rules.specs.Turns.{rule_in};
+ghost use Rattle.tableau_rules.specs.QuerySeen.{cores_in};
+ghost use Rattle.tableau_rules.specs.Kinds.{kind_of};
 ghost use Rattle.tableau_rules.specs.CertSeen.{reason_of};
 ghost use Rattle.cert_checker.specs.declared.why.Why.TheVariants.{NotLower, KidLeaves};
 ghost use Rattle.cert_checker.specs.Causes.{first_bad, is_wait, is_lower, stays, is_first_lower, reason_cause};
 ghost use Rattle.cert_checker.specs.Entries.{entry_by, entries_of};
 
 use crate::why::Why;
-use formula_table::{FormulaId, Shape, Table};
-use tableau_rules::{CertNode, Mark, Node, Reason, Turn, turn};
+use tableau_rules::{CertNode, Mark, Node, Query, Reason, RuleKind, rule};
 
 // Whether what stands at the place is eliminated before the rank.
 fn is_lower(cert: &[CertNode], rank: u32, place: u32) -> bool
@@ -86,32 +84,29 @@ fn is_first_lower(cert: &[CertNode], rank: u32, kids: &[u32]) -> bool
     }
 }
 
-// Whether no kid comes of the turn.
-fn is_clashing(turn: Turn) -> bool
-    ensures { (closure : List CoreForm) → result ≡ is_clash (rule_in closure turn) }
+// Whether the rule is a clash.
+fn is_clashing(kind: RuleKind) -> bool
+    ensures { (f : ℕ) (r : Rule) → kind ≡ kind_of f r → result ≡ is_clash r }
 {
-    match turn {
-        Turn::Clash => true,
+    matches!(kind, RuleKind::Clash)
+}
+
+// Whether the until of this number is what the node works on, and is fulfilled in its first kid.
+fn is_fulfilling(kind: RuleKind, e: u16) -> bool
+    ensures { (f : ℕ) (r : Rule) → kind ≡ kind_of f r → result ≡ (f == e && fulfils r) }
+{
+    match kind {
+        RuleKind::FulfilOnly(f) | RuleKind::FulfilOrWait(f) => f == e,
         _ => false,
     }
 }
 
-// Whether the first kid that comes of the turn fulfils an until.
-fn is_fulfilling(turn: Turn) -> bool
-    ensures { (closure : List CoreForm) → result ≡ fulfils (rule_in closure turn) }
+// Whether the query has a formula of this number, and it is an until.
+fn is_until(query: &Query, number: u16) -> bool
+    ensures { result ≡ is_until (formula_at (closure_of (cores_in query.now)) number) }
 {
-    match turn {
-        Turn::FulfilOnly(_) | Turn::FulfilOrWait(_, _) => true,
-        _ => false,
-    }
-}
-
-// Whether the table has a formula of this number, and it is an until.
-fn is_until(table: &Table, number: u16) -> bool
-    ensures { result ≡ is_until (formula_at (closure_in table.now) number) }
-{
-    if number < table.len() {
-        matches!(table.node(FormulaId(number)), Shape::Until(_, _))
+    if number < query.len() {
+        query.is_until(number)
     } else {
         false
     }
@@ -119,18 +114,18 @@ fn is_until(table: &Table, number: u16) -> bool
 
 /// Why the node's reason does not hold.
 pub(crate) fn reason_cause(
-    table: &Table,
+    query: &Query,
     cert: &[CertNode],
     node: &Node,
     kids: &[u32],
     mark: Mark,
 ) -> Option<Why>
-    requires todo { AreNumbersBelow (length (closure_in table.now)) node.now.todo }
+    requires todo { AreNumbersBelow (length (closure_of (cores_in query.now))) node.now.todo }
     requires few { length kids.now ≤ 255 }
-    ensures { result ≡ reason_cause (closure_in table.now) (entries_of cert.now) (entry_by node.entry.now kids.now mark) (reason_of mark.reason) }
+    ensures { result ≡ reason_cause (closure_of (cores_in query.now)) (entries_of cert.now) (entry_by node.entry.now kids.now mark) (reason_of mark.reason) }
 {
-    let (turn, chosen) = turn(table, node);
-    let clash = is_clashing(turn);
+    let kind = rule(query, node);
+    let clash = is_clashing(kind);
     match mark.reason {
         Reason::Clash => { if clash { None } else { Some(Why::NotClash) } }
         Reason::Dead => {
@@ -141,7 +136,7 @@ pub(crate) fn reason_cause(
             }
         }
         Reason::Wait(e) => {
-            if !is_until(table, e) || clash {
+            if !is_until(query, e) || clash {
                 return Some(Why::NotUntil);
             }
             if !node.todo.has(e) && !node.next.has(e) {
@@ -150,7 +145,7 @@ pub(crate) fn reason_cause(
             if let Some(why) = leaving(cert, mark.rank, e, kids) {
                 return Some(why);
             }
-            if chosen.0 == e && is_fulfilling(turn) && !is_first_lower(cert, mark.rank, kids) {
+            if is_fulfilling(kind, e) && !is_first_lower(cert, mark.rank, kids) {
                 return Some(Why::FulfilNotLower);
             }
             None

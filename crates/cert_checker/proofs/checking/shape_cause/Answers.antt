@@ -1,9 +1,11 @@
 use Rattle.std.proofs.Common.{sym, ◌∙◌, length}
-use Rattle.formula_table.specs.Tables.{closure_in}
+use Rattle.formula_table.specs.Closures.{closure_of}
+use Rattle.tableau_rules.specs.QuerySeen.{cores_in}
 use Rattle.tableau_rules.specs.NodeSeen.{node_of}
-use Rattle.tableau_rules.specs.Turns.{sets_of}
+use Rattle.state_space.specs.Members.{full_of}
+use Rattle.state_space.specs.Spaces.{sizes}
 use Rattle.cert_checker.proofs.Validity.{shaped_todo}
 use Rattle.cert_checker.proofs.checking.shape_cause.Goals as goal
 
 pub count_cause-requires : goal.count_cause-requires
-count_cause-requires c = record { todo = shaped_todo (length (closure_in c.args.table.now)) (sets_of c.args.full.now) (node_of c.args.node.now) (sym c.has_shape.ensures.shape ∙ c.if-not-has_shape.false) }
+count_cause-requires c = record { todo = shaped_todo (length (closure_of (cores_in c.args.query.now))) (full_of (sizes c.args.space.now)) (node_of c.args.node.now) (sym c.has_shape.ensures.shape ∙ c.if-not-has_shape.false) }
