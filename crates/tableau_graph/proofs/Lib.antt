@@ -1,0 +1,4 @@
+pub mod Puts
+pub mod Growth
+pub mod Wholes
+pub mod Joins
