@@ -1,0 +1,4 @@
+pub mod Marks
+pub mod CertNodes
+pub mod Outcomes
+pub mod SmallGraphs

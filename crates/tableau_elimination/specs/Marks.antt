@@ -1,0 +1,119 @@
+-- Marks of the places of a graph, while more and more places go: when each went, and why.
+use Rattle.std.specs.Prelude.{get_or, ◌≡◌, ℕ, ◌+◌, ◌-◌, ◌<◌, ◌≤◌, ◌^◌, ◌⊎◌, List, [], ◌∷◌, length, Bool, true, false, ◌&&◌, nat_lt, cond, not}
+use Rattle.formula_table.specs.Closures.{closure_of}
+use Rattle.tableau_rules.specs.declared.link.Link.{Link}
+use Rattle.tableau_rules.specs.QuerySeen.{cores_in}
+use Rattle.tableau_rules.specs.GraphSeen.{graph_of}
+use Rattle.tableau_rules.specs.Links.{Among, IsHead, kids_at, carries_at, fulfils_at, InRange, PlaceReached}
+use Rattle.tableau_rules.specs.Levels.{Alive, alive_at, ComesTo, IsSettled, PlacesSurvive}
+use Rattle.tableau_elimination.specs.declared.search.Search.{Search}
+use Rattle.tableau_elimination.specs.declared.cause.Cause.{Cause}
+use Rattle.tableau_elimination.specs.declared.cause.Cause.TheVariants.{Dead, Wait}
+
+-- which untils of the query are carried at which places of the graph
+abbrev pub carrying_in : Search → ℕ → ℕ → Bool
+carrying_in search = carries_at (closure_of (cores_in search.query.now)) (graph_of search.graph.now)
+
+-- what elimination needs of a graph: kids are places, each place is reached from the first, and an until that a place carries
+-- goes on into each kid but the one that fulfils it
+pub record IsConnected (links : List Link) (carrying fulfilling : ℕ → ℕ → Bool) : Type 0 where
+  pub some : 0 < length links
+  pub in_range : InRange links
+  pub reached : (k : ℕ) → k < length links → PlaceReached links k
+  pub goes_on : (e k p : ℕ) → k < length links → carrying e k ≡ true → Among p (kids_at links k)
+      → (carrying e p ≡ true) ⊎ ((fulfilling e k ≡ true) × IsHead p (kids_at links k))
+
+-- a graph of fewer than 2^32 places, connected by its links, of which each node has one
+pub record IsReady (search : Search) : Type 0 where
+  pub few : length search.links.now < 2 ^ 32
+  pub size : length (graph_of search.graph.now) ≡ length search.links.now
+  pub connected : IsConnected search.links.now (carrying_in search) (fulfils_at search.links.now)
+
+-- why the place is gone
+abbrev pub cause_at : List Cause → ℕ → Cause
+cause_at causes k = get_or causes k Dead
+
+-- the place is gone
+abbrev pub Gone : List Bool → ℕ → Type 0
+Gone alive k = get_or alive k false ≡ false
+
+-- the place has a kid
+abbrev pub HasKid : List Link → ℕ → Type 0
+HasKid links k = (p : ℕ) × Among p (kids_at links k)
+
+-- the mark of a place is right: dead is also a place with no kids
+abbrev pub IsRight : List Link → (ℕ → ℕ → Bool) → (ℕ → ℕ → Bool) → List ℕ → List Cause → ℕ → Cause → Type 0
+IsRight links carrying fulfilling ranks causes k Dead = (p : ℕ) → Among p (kids_at links k) → get_or ranks p 0 < get_or ranks k 0
+IsRight links carrying fulfilling ranks causes k (Wait e) =
+    (carrying e k ≡ true) × HasKid links k
+    × ((p : ℕ) → Among p (kids_at links k) → (get_or ranks p 0 < get_or ranks k 0) ⊎ ((get_or ranks p 0 ≡ get_or ranks k 0) × (cause_at causes p ≡ Wait e)))
+    × (fulfilling e k ≡ true → (p : ℕ) → IsHead p (kids_at links k) → get_or ranks p 0 < get_or ranks k 0)
+
+-- all places are gone, each for a right cause
+pub record AreRight (links : List Link) (carrying fulfilling : ℕ → ℕ → Bool) (ranks : List ℕ) (causes : List Cause) : Type 0 where
+  pub ranked : length ranks ≡ length links
+  pub caused : length causes ≡ length links
+  pub right : (k : ℕ) → k < length links → IsRight links carrying fulfilling ranks causes k (cause_at causes k)
+
+-- how many places are alive
+abbrev pub living : List Bool → ℕ
+living [] = 0
+living (x ∷ xs) = cond x 1 0 + living xs
+
+-- the places that are gone have right marks, with ranks that rise as fewer places are left
+pub record AreMarked (links : List Link) (carrying fulfilling : ℕ → ℕ → Bool) (alive : List Bool) (ranks : List ℕ) (causes : List Cause) (left : ℕ) : Type 0 where
+  pub tested : length alive ≡ length links
+  pub ranked : length ranks ≡ length links
+  pub caused : length causes ≡ length links
+  pub rest : living alive ≡ left
+  pub below : (k : ℕ) → k < length links → Gone alive k → get_or ranks k 0 + left < length links
+  pub shut : (k : ℕ) → k < length links → Gone alive k → (p : ℕ) → Among p (kids_at links k) → Gone alive p
+  pub right : (k : ℕ) → k < length links → Gone alive k → IsRight links carrying fulfilling ranks causes k (cause_at causes k)
+
+-- each living place has a kid
+abbrev pub Leafless : List Link → List Bool → Type 0
+Leafless links alive = (k : ℕ) → k < length links → Alive alive k → HasKid links k
+
+-- whether the place is alive without a level, and carries the until
+abbrev pub waits : (ℕ → Bool) → List Bool → List ℕ → ℕ → Bool
+waits carried alive levels k = alive_at alive k && (not (nat_lt (get_or levels k 0) (length levels)) && carried k)
+
+-- the waiting places below the bound are gone, all with one rank
+pub record AreKilled (carried : ℕ → Bool) (e : ℕ) (levels : List ℕ) (old alive : List Bool) (old_ranks ranks : List ℕ) (old_causes causes : List Cause) (before left bound : ℕ) : Type 0 where
+  pub tested : length alive ≡ length old
+  pub ranked : length ranks ≡ length old_ranks
+  pub caused : length causes ≡ length old_causes
+  pub rest : living alive ≡ left
+  pub less : left ≤ before
+  pub alive_is : (k : ℕ) → alive_at alive k ≡ cond (nat_lt k bound && waits carried old levels k) false (alive_at old k)
+  pub rank_is : (k : ℕ) → get_or ranks k 0 ≡ cond (nat_lt k bound && waits carried old levels k) (length levels - before) (get_or old_ranks k 0)
+  pub cause_is : (k : ℕ) → cause_at causes k ≡ cond (nat_lt k bound && waits carried old levels k) (Wait e) (cause_at old_causes k)
+  pub some : (k : ℕ) → k < bound → waits carried old levels k ≡ true → left < before
+  pub same : left ≡ before → alive ≡ old
+
+-- after the places from the bound on were cleared
+pub record AreCleared (links : List Link) (carrying fulfilling : ℕ → ℕ → Bool) (old alive : List Bool) (ranks : List ℕ) (causes : List Cause) (before left bound : ℕ) : Type 0 where
+  pub marked : AreMarked links carrying fulfilling alive ranks causes left
+  pub less : left ≤ before
+  pub same : left ≡ before → alive ≡ old
+  pub goes : left ≡ before → (k : ℕ) → bound ≤ k → k < length links → Alive alive k → (p : ℕ) × Among p (kids_at links k) × Alive alive p
+  pub leafless : (k : ℕ) → bound ≤ k → k < length links → Alive alive k → HasKid links k
+
+-- after the places that wait for the until are gone
+pub record IsWaitedFor (links : List Link) (carrying fulfilling : ℕ → ℕ → Bool) (e : ℕ) (old alive : List Bool) (ranks : List ℕ) (causes : List Cause) (before left : ℕ) : Type 0 where
+  pub marked : AreMarked links carrying fulfilling alive ranks causes left
+  pub leafless : Leafless links alive
+  pub less : left ≤ before
+  pub same : left ≡ before → alive ≡ old
+  pub fair : left ≡ before → (k : ℕ) → k < length links → Alive alive k → carrying e k ≡ true → ComesTo links (fulfilling e) alive k
+
+-- after a round, which settles all where it kills none
+pub record IsRound (links : List Link) (carrying fulfilling : ℕ → ℕ → Bool) (alive : List Bool) (ranks : List ℕ) (causes : List Cause) (before left : ℕ) : Type 0 where
+  pub marked : AreMarked links carrying fulfilling alive ranks causes left
+  pub less : left ≤ before
+  pub settled : left ≡ before → IsSettled links carrying fulfilling alive
+
+-- after the last round, whether or not the first place stays
+abbrev pub HasEnded : Bool → List Link → (ℕ → ℕ → Bool) → (ℕ → ℕ → Bool) → List Bool → List ℕ → List Cause → Type 0
+HasEnded true links carrying fulfilling alive ranks causes = PlacesSurvive links carrying fulfilling alive
+HasEnded false links carrying fulfilling alive ranks causes = AreRight links carrying fulfilling ranks causes

@@ -1,0 +1,141 @@
+//! One way each in which places go: those with no living kid, and those that carry an until which
+//! no path among the living fulfils. All that go at once for an until get one rank. A rank is the
+//! number of places that were gone before.
+
+ghost use Rattle.std.specs.Prelude.{◌≡◌, ℕ, ◌<◌, ◌^◌, length, IfOk, IsTrue, IsFalse, Bool, false};
+ghost use Rattle.std.specs.List.{AllByRecursion};
+ghost use Rattle.formula_table.specs.Closures.{formula_at, closure_of};
+ghost use Rattle.tableau_rules.specs.Certificates.{is_until};
+ghost use Rattle.tableau_rules.specs.QuerySeen.{cores_in};
+ghost use Rattle.tableau_rules.specs.GraphSeen.{graph_of};
+ghost use Rattle.tableau_rules.specs.Links.{kids_of, fulfils_at, InRange};
+ghost use Rattle.tableau_rules.specs.Levels.{some_is, alive_at, Alive, HasLevels};
+ghost use Rattle.tableau_elimination.specs.Marks.{carrying_in, living, waits, IsReady, AreMarked, Leafless, AreKilled, AreCleared, IsWaitedFor};
+
+use crate::cause::Cause;
+use crate::search::Search;
+use source_sink::Memory;
+use std::alloc::Global;
+use tableau_rules::{Kids, Link, does_carry, levels};
+
+// Whether some kid is alive.
+fn is_some_alive(kids: Kids, alive: &[bool]) -> bool
+    requires { AllByRecursion (λ p. p < length alive.now) (kids_of kids) }
+    ensures { result ≡ some_is (alive_at alive.now) (kids_of kids) }
+{
+    match kids {
+        Kids::Leaf => false,
+        Kids::One(a) => alive[a as usize],
+        Kids::Two(a, b) => alive[a as usize] || alive[b as usize],
+    }
+}
+
+/// Kills each place none of whose kids is alive, the last place first. Answers how many are left.
+pub(crate) fn clear(
+    links: &[Link],
+    alive: &mut [bool],
+    ranks: &mut [u32],
+    causes: &mut [Cause],
+    left: u32,
+) -> u32
+    requires few { length links.now < 2 ^ 32 }
+    requires in_range { InRange links.now }
+    requires marked { (carrying : ℕ → ℕ → Bool) × AreMarked links.now carrying (fulfils_at links.now) alive.old ranks.old causes.old left }
+    ensures { (carrying : ℕ → ℕ → Bool) → AreMarked links.now carrying (fulfils_at links.now) alive.old ranks.old causes.old left
+        → AreCleared links.now carrying (fulfils_at links.now) alive.old alive.new ranks.new causes.new left result 0 }
+{
+    let count = links.len() as u32;
+    let mut rest = left;
+    'places: for place in (0..links.len()).rev() {
+        if alive[place] && !is_some_alive(links[place].kids, alive) {
+            alive[place] = false;
+            ranks[place] = count - rest;
+            causes[place] = Cause::Dead;
+            rest -= 1;
+        }
+    }
+    rest
+}
+
+// Whether the place is alive without a level, and carries the until.
+fn is_waiting(search: &Search<'_>, until: u16, levels: &[u32], alive: &[bool], place: usize) -> bool
+    requires inside { place < length levels.now }
+    requires graph { length (graph_of search.now.graph.now) ≡ length levels.now }
+    requires alive { length alive.now ≡ length levels.now }
+    requires until { IsTrue (is_until (formula_at (closure_of (cores_in search.now.query.now)) until)) }
+    ensures { result ≡ waits (carrying_in search.now until) alive.now levels.now place }
+{
+    alive[place]
+        && levels[place] as usize >= levels.len()
+        && does_carry(search.query, search.graph, until, place)
+}
+
+// Kills the places that carry the until and have no level towards it.
+fn kill_waiting(
+    search: &Search<'_>,
+    until: u16,
+    levels: &[u32],
+    alive: &mut [bool],
+    ranks: &mut [u32],
+    causes: &mut [Cause],
+    left: u32,
+) -> u32
+    requires few { length levels.now < 2 ^ 32 }
+    requires graph { length (graph_of search.now.graph.now) ≡ length levels.now }
+    requires alive { length alive.old ≡ length levels.now }
+    requires ranks { length ranks.old ≡ length levels.now }
+    requires causes { length causes.old ≡ length levels.now }
+    requires left { living alive.old ≡ left }
+    requires until { IsTrue (is_until (formula_at (closure_of (cores_in search.now.query.now)) until)) }
+    ensures { AreKilled (carrying_in search.now until) until levels.now alive.old alive.new ranks.old ranks.new causes.old causes.new left result (length levels.now) }
+{
+    let count = levels.len() as u32;
+    let rank = count - left;
+    let mut rest = left;
+    'places: for place in 0..levels.len() {
+        if is_waiting(search, until, levels, alive, place) {
+            alive[place] = false;
+            ranks[place] = rank;
+            causes[place] = Cause::Wait(until);
+            rest -= 1;
+        }
+    }
+    rest
+}
+
+// Whether some living place carries the until.
+fn is_carried(search: &Search<'_>, until: u16, alive: &[bool]) -> bool
+    requires alive { length alive.now ≡ length (graph_of search.now.graph.now) }
+    requires until { IsTrue (is_until (formula_at (closure_of (cores_in search.now.query.now)) until)) }
+    ensures { IsFalse result → (k : ℕ) → k < length alive.now → Alive alive.now k → carrying_in search.now until k ≡ false }
+{
+    'places: for place in 0..alive.len() {
+        if alive[place] && does_carry(search.query, search.graph, until, place) {
+            return true;
+        }
+    }
+    false
+}
+
+/// Kills the places that wait for the until. Answers how many are left.
+pub(crate) fn kill(
+    alloc: Global,
+    search: &Search<'_>,
+    until: u16,
+    alive: &mut [bool],
+    ranks: &mut [u32],
+    causes: &mut [Cause],
+    left: u32,
+) -> Result<u32, Memory>
+    requires ready { IsReady search.now }
+    requires marked { AreMarked search.now.links.now (carrying_in search.now) (fulfils_at search.now.links.now) alive.old ranks.old causes.old left }
+    requires leafless { Leafless search.now.links.now alive.old }
+    requires until { IsTrue (is_until (formula_at (closure_of (cores_in search.now.query.now)) until)) }
+    ensures { IfOk result (λ rest. IsWaitedFor search.now.links.now (carrying_in search.now) (fulfils_at search.now.links.now) until alive.old alive.new ranks.new causes.new left rest) }
+{
+    if !is_carried(search, until, alive) {
+        return Ok(left);
+    }
+    let levels = levels(alloc, search.links, until, alive)?;
+    Ok(kill_waiting(search, until, &levels, alive, ranks, causes, left))
+}

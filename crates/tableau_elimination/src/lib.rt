@@ -1,0 +1,19 @@
+//! Elimination: which nodes of a query's whole graph can be part of no lasso. Either the root is
+//! among them, and their ranks and reasons make a certificate that no trace meets the query, or it
+//! stays, with enough others to build a lasso from. No search is kept here but this one: how levels
+//! are found stands with the links of a graph.
+#![tactic(auto)]
+
+mod cause;
+mod certify;
+mod elimination;
+mod kill;
+mod outcome;
+mod round;
+mod search;
+
+pub use elimination::eliminate;
+pub use outcome::Outcome;
+
+#[cfg(test)]
+mod tests;

@@ -1,0 +1,12 @@
+//! What an elimination answers.
+
+use tableau_rules::Cert;
+
+/// Whether the root of a graph is gone, with what shows it.
+#[derive(Drop)]
+pub enum Outcome {
+    /// No trace meets the query, as the certificate shows.
+    RootGone(Cert),
+    /// The places that stay, from which a lasso can be built.
+    RootStays(Vec<bool>),
+}
