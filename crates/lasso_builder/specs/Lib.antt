@@ -1,0 +1,3 @@
+pub mod PlaceWalks
+pub mod LevelTables
+pub mod GraphPlaces
