@@ -1,0 +1,10 @@
+pub mod Writing
+pub mod Cuts
+pub mod GuessSteps
+pub mod Numerals
+pub mod ListLaws
+pub mod SetLaws
+pub mod NodeLaws
+pub mod TextLaws
+pub mod Faults
+pub mod ReadSteps
