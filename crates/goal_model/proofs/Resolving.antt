@@ -1,5 +1,6 @@
 -- Resolution, a statement at a time: what the rest makes, and why it is refused, the whole list makes, and is refused for.
 use Rattle.std.proofs.Common.{◌≡◌, ℕ, suc, ◌+◌, ◌<◌, ◌≤◌, false, Some, None, List, ◌∷◌, length, get_or, drop, drop-cons, add-one, sym, ap, subst, ◌∙◌}
+use Rattle.std.specs.Prelude.{All}
 use Rattle.std.proofs.lemmas.Option.{none-some}
 use Rattle.std.proofs.lemmas.Bool.{false≢true}
 use Rattle.std.proofs.Math.ListN.{drop_of_length-le}
@@ -9,8 +10,10 @@ use Rattle.goal_model.specs.declared.resolution.ModelRefusal.{ModelRefusal}
 use Rattle.goal_model.specs.declared.resolution.ModelRefusal.TheVariants as refusal
 use Rattle.goal_model.specs.declared.resolution.Step.TheVariants.{Taken, Unresolved, NotBuilt}
 use Rattle.goal_model.specs.Models.{ModelForm}
-use Rattle.goal_model.specs.Resolution.{taken, Makes, at_end, goes_on, no_model, finished, IsModel, is_built, RefusesFrom, a_form, a_statement, a_later_one, RefusesModel}
+use Rattle.goal_model.specs.Resolution.{taken, Makes, at_end, goes_on, no_model, finished, IsResolved, IsModel, is_built, RefusesFrom, a_form, a_statement, a_later_one, RefusesModel, the_walk, a_large_demand}
+use Rattle.goal_model.specs.Demands.{IsAnswerable}
 use Rattle.goal_model.specs.Judging.{IsDraft, Judges}
+use Rattle.goal_model.proofs.CountedDemands.{All_at_split}
 use Rattle.goal_model.proofs.DraftModels.{no_model_draft, taken_draft}
 use Rattle.goal_model.proofs.Making.{made_first, makes_once, taken_first}
 
@@ -19,7 +22,7 @@ pub record Resolving (all : List StatementForm) (m : ModelForm) (number : ℕ) (
   pub draft : IsDraft m
   pub onward : (last : ModelForm) → Makes m number rest last → Makes no_model 1 all last
   pub back : (last : ModelForm) → Makes no_model 1 all last → Makes m number rest last
-  pub refused : (e : ModelRefusal) → RefusesFrom m number rest e → RefusesModel all e
+  pub refused : (e : ModelRefusal) → RefusesFrom m number rest e → RefusesFrom no_model 1 all e
 
 pub resolving_start : (all : List StatementForm) → Resolving all no_model 1 all
 resolving_start all = record { draft = no_model_draft; onward = λ last h. h; back = λ last h. h; refused = λ e h. h }
@@ -47,12 +50,12 @@ pub step_taken : (all : List StatementForm) (m next : ModelForm) (xs : List code
 step_taken all m next xs i x inside is r j = resolving_more all m next (i + 1) (statement_of x.kind) (all_statements (drop (i + 1) xs)) (at_statement all m xs i x inside is r) j
 
 pub step_unresolved : (all : List StatementForm) (m new : ModelForm) (xs : List code.Statement) (i : ℕ) (x : code.Statement) → i < length xs → x ≡ get_or xs i x → Resolving all m (i + 1) (all_statements (drop i xs))
-    → Judges m (i + 1) (statement_of x.kind) Unresolved new → RefusesModel all (refusal.Unresolved (i + 1))
+    → Judges m (i + 1) (statement_of x.kind) Unresolved new → RefusesFrom no_model 1 all (refusal.Unresolved (i + 1))
 step_unresolved all m new xs i x inside is r j =
     (at_statement all m xs i x inside is r).refused (refusal.Unresolved (i + 1)) (a_statement m (i + 1) (statement_of x.kind) (all_statements (drop (i + 1) xs)) j.0 j.1)
 
 pub step_not_built : (all : List StatementForm) (m new : ModelForm) (xs : List code.Statement) (i : ℕ) (x : code.Statement) → i < length xs → x ≡ get_or xs i x → Resolving all m (i + 1) (all_statements (drop i xs))
-    → Judges m (i + 1) (statement_of x.kind) NotBuilt new → RefusesModel all (refusal.NotBuilt (i + 1))
+    → Judges m (i + 1) (statement_of x.kind) NotBuilt new → RefusesFrom no_model 1 all (refusal.NotBuilt (i + 1))
 step_not_built all m new xs i x inside is r j =
     (at_statement all m xs i x inside is r).refused (refusal.NotBuilt (i + 1)) (a_form m (i + 1) (statement_of x.kind) (all_statements (drop (i + 1) xs)) j)
 
@@ -60,7 +63,7 @@ pub all_taken : (all : List StatementForm) (m : ModelForm) (xs : List code.State
 all_taken all m xs i past r =
     (subst (λ (ys : List code.Statement). Resolving all m (i + 1) (all_statements ys)) (drop_of_length-le xs past) r).onward m (at_end m (i + 1))
 
-pub resolved_once : (all : List StatementForm) (m form : ModelForm) → Makes no_model 1 all m → IsModel all form → finished m ≡ form
+pub resolved_once : (all : List StatementForm) (m form : ModelForm) → Makes no_model 1 all m → IsResolved all form → finished m ≡ form
 resolved_once all m form a b = ap finished (makes_once a b.made) ∙ b.whole
 
 -- a model or a refusal, and never both
@@ -93,5 +96,13 @@ refused_not_made m last number _ _ (a_statement _ _ s ss built closes) made =
     first.2 (closes first.0 first.1)
 refused_not_made m last number _ _ (a_later_one _ next _ s ss e is free rest) made = refused_not_made next last (number + 1) ss e rest (taken_first is free last made)
 
+-- a text is resolved to one model alone
+resolved_same : (ss : List StatementForm) (m form : ModelForm) → IsResolved ss m → IsResolved ss form → m ≡ form
+resolved_same ss m form a b = sym a.whole ∙ resolved_once ss a.draft form a.made b
+
 pub never_both : (ss : List StatementForm) (e : ModelRefusal) (m : ModelForm) → RefusesModel ss e → IsModel ss m → ⊥
-never_both ss e m refused made = refused_not_made no_model made.draft 1 ss e refused made.made
+never_both ss _ m (the_walk e refused) made = refused_not_made no_model made.resolved.draft 1 ss e refused made.resolved.made
+never_both ss _ m (a_large_demand other front back link resolved split before large) made =
+    let same : m ≡ other = resolved_same ss m other made.resolved resolved in
+    let all : All (IsAnswerable other) other.links = subst (λ (x : ModelForm). All (IsAnswerable x) x.links) same made.answerable in
+    large (All_at_split (IsAnswerable other) front back link (subst (All (IsAnswerable other)) split all))

@@ -1,4 +1,6 @@
 pub mod Models
+pub mod Demands
+pub mod LargeDemands
 pub mod Names
 pub mod ValueIndexes
 pub mod Formulas

@@ -1,12 +1,13 @@
 -- Which model a list of statements makes, and which statement is refused where they make none. A name is used only after its statement,
 -- all declared names share one namespace, and no goal is its own subgoal, directly or by way of others.
-use Rattle.std.specs.Prelude.{◌≡◌, ℕ, ◌+◌, ◌-◌, nat_le, Bool, true, false, ◌||◌, not, List, [], ◌∷◌, ◌++◌, length, map, replicate, Option, Some, None, is_some, option_map, option_and_then, ◌==◌, if◌then◌else◌}
+use Rattle.std.specs.Prelude.{◌≡◌, ℕ, ◌+◌, ◌-◌, nat_le, Bool, true, false, ◌||◌, not, List, [], ◌∷◌, ◌++◌, length, map, replicate, Option, Some, None, is_some, option_map, option_and_then, All, ◌==◌, if◌then◌else◌}
 use Rattle.std.specs.List.{list_any}
 use Rattle.temporal_logic.specs.Ltl.{Ltl}
 use Rattle.model_text.specs.Statements.{StatementForm, version, variable, domain, goal, refinement, trace}
 use Rattle.goal_model.specs.declared.resolution.ModelRefusal.{ModelRefusal}
 use Rattle.goal_model.specs.declared.resolution.ModelRefusal.TheVariants.{NotBuilt, Unresolved}
-use Rattle.goal_model.specs.Models.{NamedFormula, TraceForm, ModelForm}
+use Rattle.goal_model.specs.Models.{NamedFormula, LinkForm, TraceForm, ModelForm}
+use Rattle.goal_model.specs.Demands.{IsAnswerable}
 use Rattle.goal_model.specs.Names.{place_of}
 use Rattle.goal_model.specs.ValueIndexes.{is_good}
 use Rattle.goal_model.specs.Formulas.{formula_over}
@@ -87,8 +88,8 @@ padded_trace n t = record t { prefix = map (padded n) t.prefix; cycle = map (pad
 abbrev pub finished : ModelForm → ModelForm
 finished m = record m { traces = map (padded_trace (length m.names)) m.traces }
 
--- the statements of a text make this model
-pub record IsModel (statements : List StatementForm) (m : ModelForm) : Type 0 where
+-- all statements are resolved, and make this model
+pub record IsResolved (statements : List StatementForm) (m : ModelForm) : Type 0 where
   pub draft : ModelForm
   pub made : Makes no_model 1 statements draft
   pub whole : finished draft ≡ m
@@ -111,6 +112,13 @@ pub data RefusesFrom : ModelForm → ℕ → List StatementForm → ModelRefusal
   a_later_one : (m next : ModelForm) (number : ℕ) (s : StatementForm) (ss : List StatementForm) (e : ModelRefusal) → taken m number s ≡ Some next → ¬ (ClosesCycle m next)
       → RefusesFrom next (number + 1) ss e → RefusesFrom m number (s ∷ ss) e
 
--- why the statements of a text make no model
-abbrev pub RefusesModel : List StatementForm → ModelRefusal → Type 0
-RefusesModel = RefusesFrom no_model 1
+-- the statements of a text make this model, and no demand of it is too large to be answered
+pub record IsModel (statements : List StatementForm) (m : ModelForm) : Type 0 where
+  pub resolved : IsResolved statements m
+  pub answerable : All (IsAnswerable m) m.links
+
+-- why the statements of a text make no model: the first of them that can't be taken, or else that of the first link whose demand is too large
+pub data RefusesModel (statements : List StatementForm) : ModelRefusal → Type 0 where
+  the_walk : (e : ModelRefusal) → RefusesFrom no_model 1 statements e → RefusesModel statements e
+  a_large_demand : (m : ModelForm) (front back : List LinkForm) (link : LinkForm) → IsResolved statements m → m.links ≡ front ++ link ∷ back
+      → All (IsAnswerable m) front → ¬ (IsAnswerable m link) → RefusesModel statements (Unresolved link.statement)

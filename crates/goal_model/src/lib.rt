@@ -2,6 +2,7 @@
 //! can't be resolved is named. For whoever asks something of a model.
 #![tactic(auto)]
 
+mod demand_size;
 mod formula;
 mod model;
 mod reachability;

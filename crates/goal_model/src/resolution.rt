@@ -9,12 +9,13 @@ ghost use Rattle.model_text.specs.RawSeen.{raw_tree};
 ghost use Rattle.model_text.specs.Statements.{StatementForm, statement_of, statements_of, settings_of, variable, domain, goal, refinement, trace};
 ghost use Rattle.goal_model.specs.Models.{ModelForm, model_of, goal_of, property_of, named_trace_of, TraceIsOver, IsWellFormed};
 ghost use Rattle.goal_model.specs.Names.{place_of};
-ghost use Rattle.goal_model.specs.Resolution.{is_declared as is_declared_of, place_behind, places_behind, padded as padded_row, padded_trace as padded_trace_of, finished as finished_of, IsModel, RefusesModel};
+ghost use Rattle.goal_model.specs.Resolution.{is_declared as is_declared_of, place_behind, places_behind, padded as padded_row, padded_trace as padded_trace_of, finished as finished_of, no_model, IsResolved, RefusesFrom, IsModel, RefusesModel};
 ghost use Rattle.goal_model.specs.Judging.{TraceFitsFirst, IsDraft, Judges};
 ghost use Rattle.goal_model.specs.declared.resolution.ModelRefusal.{ModelRefusal as RefusalForm};
 ghost use Rattle.goal_model.specs.declared.resolution.ModelRefusal.TheVariants.{Memory as ModelMemory};
 ghost use Rattle.goal_model.specs.declared.resolution.Step.TheVariants.{Taken as StepTaken, Unresolved as StepUnresolved};
 
+use crate::demand_size::first_large;
 use crate::formula::formula;
 use crate::model::{Goal, Link, Model, NamedTrace, Property};
 use crate::reachability::closes_cycle;
@@ -30,7 +31,8 @@ use temporal_logic::Lasso;
 pub enum ModelRefusal {
     /// The statement has a form that is not built yet, and each one before it was resolved.
     NotBuilt(u32),
-    /// The statement can't be resolved, and each one before it was.
+    /// The statement can't be resolved, and each one before it was. Or all were, and it is the first refinement whose complete demand
+    /// is too large.
     Unresolved(u32),
     /// Memory ran out.
     Memory,
@@ -329,13 +331,12 @@ fn finished(alloc: Global, mut model: Model) -> Result<Model, Memory>
     Ok(model)
 }
 
-/// The model of a list of statements, of which there are fewer than 2^32. `NotBuilt` and `Unresolved` name the first statement that
-/// can't be taken: one whose form is not built yet, or one that can't be resolved.
-pub fn resolve(alloc: Global, raw: &RawModel) -> Result<Model, ModelRefusal>
+// The model that all statements make, whatever the size of its demands.
+fn walk(alloc: Global, raw: &RawModel) -> Result<Model, ModelRefusal>
     requires few { vec_len raw.now.statements < 2 ^ 32 }
-    ensures made { IfOk result (λ m. IsModel (statements_of raw.now) (model_of m)) }
-    ensures only { (form : ModelForm) → IsModel (statements_of raw.now) form → IfOk result (λ m. model_of m ≡ form) }
-    ensures refused { IfErr result (λ e. (e ≡ ModelMemory) ⊎ RefusesModel (statements_of raw.now) e) }
+    ensures made { IfOk result (λ m. IsResolved (statements_of raw.now) (model_of m)) }
+    ensures only { (form : ModelForm) → IsResolved (statements_of raw.now) form → IfOk result (λ m. model_of m ≡ form) }
+    ensures refused { IfErr result (λ e. (e ≡ ModelMemory) ⊎ RefusesFrom no_model 1 (statements_of raw.now) e) }
     ensures well_formed { IfOk result (λ m. IsWellFormed (model_of m)) }
 {
     let mut model = Model {
@@ -354,6 +355,24 @@ pub fn resolve(alloc: Global, raw: &RawModel) -> Result<Model, ModelRefusal>
         }
     }
     Ok(finished(alloc, model)?)
+}
+
+/// The model of a list of statements, of which there are fewer than 2^32. `NotBuilt` and `Unresolved` name the first statement that
+/// can't be taken: one whose form is not built yet, or one that can't be resolved. Where all are taken, `Unresolved` names the first
+/// refinement whose complete demand is too large: where the positive cores of all domain properties, the subgoals and the negated
+/// parent have over 4,096 nodes in all, or one of them has over 1,000 levels.
+pub fn resolve(alloc: Global, raw: &RawModel) -> Result<Model, ModelRefusal>
+    requires few { vec_len raw.now.statements < 2 ^ 32 }
+    ensures made { IfOk result (λ m. IsModel (statements_of raw.now) (model_of m)) }
+    ensures only { (form : ModelForm) → IsModel (statements_of raw.now) form → IfOk result (λ m. model_of m ≡ form) }
+    ensures refused { IfErr result (λ e. (e ≡ ModelMemory) ⊎ RefusesModel (statements_of raw.now) e) }
+    ensures well_formed { IfOk result (λ m. IsWellFormed (model_of m)) }
+{
+    let model = walk(alloc, raw)?;
+    if let Some(statement) = first_large(&model) {
+        return Err(ModelRefusal::Unresolved(statement));
+    }
+    Ok(model)
 }
 
 /// Statements that are refused make no model.

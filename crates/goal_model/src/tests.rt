@@ -435,3 +435,67 @@ fn each_part_has_its_statement_and_its_place(rt: HostRuntime) -> Result<(), Fail
     assert_eq!(rt; model.links[0].subgoals(), [2, 1].as_slice());
     Ok(())
 }
+
+// `eventually within d p` has a positive core of 3d + 1 nodes, and over an operand of n nodes one of
+// n + d(n + 2): within 34 of within 38 it has 4093. The negated `always p` has 3 nodes, the negated
+// `n >= k` of two values has 3, too, and the negated `n < k` has 7.
+#[test]
+fn a_demand_that_is_too_large_is_refused(rt: HostRuntime) -> Result<(), Fail> {
+    are_unresolved(
+        &rt,
+        rt.alloc(),
+        &[
+            (
+                "30601 nodes in a subgoal",
+                "kaos 1; var p: bool; goal g: always p; goal h: eventually within 100 eventually within 100 p; refine g by h;",
+                5,
+            ),
+            (
+                "a domain property over 4096 nodes",
+                "kaos 1; var p: bool; goal g: always p; goal h: eventually within 34 eventually within 38 p; refine g by h; domain d: p;",
+                5,
+            ),
+            (
+                "a subgoal over 4096 nodes",
+                "kaos 1; var p: bool; goal g: always p; goal h: eventually within 34 eventually within 38 p; goal i: p; refine g by h, i;",
+                6,
+            ),
+            (
+                "the negated parent over 4096 nodes",
+                "kaos 1; var p: bool; var n: 0..1; var k: 0..1; goal g: n < k; goal h: eventually within 34 eventually within 38 p; refine g by h;",
+                7,
+            ),
+            (
+                "the first of two, behind a small one",
+                "kaos 1; var p: bool; goal g: p; goal h: eventually within 100 eventually within 100 p; goal i: p; refine g by i; refine g by h; refine i by h;",
+                7,
+            ),
+            (
+                "a later statement that is not taken",
+                "kaos 1; var p: bool; goal g: p; goal h: eventually within 100 eventually within 100 p; refine g by h; goal i: q;",
+                6,
+            ),
+        ],
+    )
+}
+
+#[test]
+fn a_demand_may_have_4096_nodes(rt: HostRuntime) -> Result<(), Fail> {
+    for (name, text) in [
+        (
+            "a large goal that is not refined",
+            "kaos 1; var p: bool; goal h: eventually within 100 eventually within 100 p;",
+        ),
+        (
+            "4096 nodes",
+            "kaos 1; var p: bool; goal g: always p; goal h: eventually within 34 eventually within 38 p; refine g by h;",
+        ),
+        (
+            "4096 nodes by the negated parent",
+            "kaos 1; var p: bool; var n: 0..1; var k: 0..1; goal g: n >= k; goal h: eventually within 34 eventually within 38 p; refine g by h;",
+        ),
+    ] {
+        assert_eq!(rt; resolved(&rt, rt.alloc(), text)?.err(), None, "{name}");
+    }
+    Ok(())
+}

@@ -1,4 +1,4 @@
-use Rattle.std.proofs.Common.{◌≡◌, Some, map, option_map, sym, ap, ◌∙◌}
+use Rattle.std.proofs.Common.{◌≡◌, None, Some, map, option_map, sym, ap, ◌∙◌}
 use Rattle.state_space.specs.Spaces.{names, ranges}
 use Rattle.state_space.specs.Ranges.{form_of}
 use Rattle.temporal_logic.specs.Trees.{tree_of}
@@ -16,3 +16,8 @@ pub returns : goal.returns
 returns c =
     let place : place_of c.args.name.now (names c.args.space.now) ≡ Some c.in_ok-x.x.0 = sym (rw c.bytes.ensures.bytes at c.in_ok-x.ensures.place) in
     rw place (among_set (ranges c.args.space.now) c.in_ok-x.x.0 c.in_ok-set.set.0 (map written c.args.values.now) (form_of c.range_of.result.now) c.range_of.ensures.range c.in_ok-set.ensures.set)
+
+pub returns-in_err-x : goal.returns-in_err-x
+returns-in_err-x c =
+    let place : place_of c.args.name.now (names c.args.space.now) ≡ None = sym (rw c.bytes.ensures.bytes at c.in_err-x.ensures.place) in
+    rw place (ap (option_map tree_of) c.from_residual.ensures)

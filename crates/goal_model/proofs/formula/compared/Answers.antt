@@ -1,4 +1,4 @@
-use Rattle.std.proofs.Common.{◌≡◌, Some, option_map, sym}
+use Rattle.std.proofs.Common.{◌≡◌, Some, option_map, sym, None, ap}
 use Rattle.state_space.specs.Spaces.{names, ranges}
 use Rattle.state_space.specs.Ranges.{form_of}
 use Rattle.temporal_logic.specs.Trees.{relation_of, tree_of}
@@ -18,3 +18,8 @@ returns c =
     rw place
     (compared_other (names c.args.space.now) (ranges c.args.space.now) c.in_ok-x.x.0 (relation_of c.args.cmp) (written c.args.value.now) (form_of c.range_of.result.now) (option_map tree_of c.other_compared.result) c.range_of.ensures.range
     c.in_default.ensures.index c.other_compared.ensures)
+
+pub returns-in_err-x : goal.returns-in_err-x
+returns-in_err-x c =
+    let place : place_of c.args.name.now (names c.args.space.now) ≡ None = sym (rw c.bytes.ensures.bytes at c.in_err-x.ensures.place) in
+    rw place (ap (option_map tree_of) c.from_residual.ensures)

@@ -1,36 +1,32 @@
-use Rattle.std.proofs.Common.{◌≡◌, get_or, inr, sym, ◌∙◌}
-use Rattle.model_text.specs.Statements.{statements_of}
+use Rattle.std.proofs.Common.{◌≡◌, ◌⊎◌, ℕ, List, inl, inr, Result, Ok, Err, sym, subst}
+use Rattle.std.specs.Prelude.{IsErrAnd, IfErr}
+use Rattle.model_text.specs.Statements.{StatementForm, statements_of}
+use Rattle.goal_model.specs.declared.resolution.ModelRefusal.{ModelRefusal}
+use Rattle.goal_model.specs.declared.resolution.ModelRefusal.TheVariants.{Memory, Unresolved}
 use Rattle.goal_model.specs.Models.{model_of}
-use Rattle.goal_model.specs.Resolution.{no_model, Makes}
-use Rattle.goal_model.proofs.Resolving.{step_taken, step_unresolved, step_not_built, all_taken, resolved_once}
+use Rattle.goal_model.specs.Resolution.{no_model, RefusesFrom, RefusesModel, the_walk, a_large_demand}
 use Rattle.goal_model.proofs.resolution.resolve.Goals as goal
 
-pub returns-in-Unresolved-clause-refused : goal.returns-in-Unresolved-clause-refused
-returns-in-Unresolved-clause-refused c =
-    let item : c.statement-item.result ≡ get_or c.args.raw.now.statements.items c.statements.place c.statement-item.result = rw c.deref-statement-items.ensures.value at c.statement-item.is in
-    inr (step_unresolved (statements_of c.args.raw.now) (model_of c.statements.model) (model_of c.take.new.model) c.args.raw.now.statements.items c.statements.place c.statement-item.result
-    (rw c.deref-statement-items.ensures.value at c.statements-test.true) item c.statements.invariant (rw c.in-Unresolved.is at c.in_ok-take.ensures.judged))
+-- what is said of an error holds of the one that is handed on
+handed_on : {A E : Type 0} (P : E → Type 0) (o : Result A E) (e : E) → IsErrAnd o (λ x. x ≡ e) → P e → IfErr o P
+handed_on P (Ok a) e is p = tt
+handed_on P (Err x) e is p = subst P (sym is) p
 
-pub returns-in-NotBuilt-clause-refused : goal.returns-in-NotBuilt-clause-refused
-returns-in-NotBuilt-clause-refused c =
-    let item : c.statement-item.result ≡ get_or c.args.raw.now.statements.items c.statements.place c.statement-item.result = rw c.deref-statement-items.ensures.value at c.statement-item.is in
-    inr (step_not_built (statements_of c.args.raw.now) (model_of c.statements.model) (model_of c.take.new.model) c.args.raw.now.statements.items c.statements.place c.statement-item.result
-    (rw c.deref-statement-items.ensures.value at c.statements-test.true) item c.statements.invariant (rw c.in-NotBuilt.is at c.in_ok-take.ensures.judged))
+refused_by : (ss : List StatementForm) (e : ModelRefusal) → (e ≡ Memory) ⊎ RefusesFrom no_model 1 ss e → (e ≡ Memory) ⊎ RefusesModel ss e
+refused_by ss e (inl memory) = inl memory
+refused_by ss e (inr refused) = inr (the_walk e refused)
 
-pub statements-preserved : goal.statements-preserved
-statements-preserved c =
-    let item : c.statement-item.result ≡ get_or c.args.raw.now.statements.items c.statements.place c.statement-item.result = rw c.deref-statement-items.ensures.value at c.statement-item.is in
-    step_taken (statements_of c.args.raw.now) (model_of c.statements.model) (model_of c.take.new.model) c.args.raw.now.statements.items c.statements.place c.statement-item.result
-    (rw c.deref-statement-items.ensures.value at c.statements-test.true) item c.statements.invariant (rw c.in-Taken.is at c.in_ok-take.ensures.judged)
+pub returns-in_err-model-clause-refused : goal.returns-in_err-model-clause-refused
+returns-in_err-model-clause-refused c =
+    let ss = statements_of c.args.raw.now in
+    handed_on (λ (e : ModelRefusal). (e ≡ Memory) ⊎ RefusesModel ss e) c.from_residual.result c.in_err-model.field-0.0 c.from_residual.ensures.1 (refused_by ss c.in_err-model.field-0.0 c.in_err-model.ensures.refused)
 
-pub returns-clause-made : goal.returns-clause-made
-returns-clause-made c = record {
-  draft = model_of c.statements.model;
-  made = all_taken (statements_of c.args.raw.now) (model_of c.statements.model) c.args.raw.now.statements.items c.statements.place (rw c.deref-statement-items.ensures.value at c.statements-test.false) c.statements.invariant;
-  whole = sym c.in_ok-finished.ensures.finished;
-}
+pub returns-in-Some-clause-refused : goal.returns-in-Some-clause-refused
+returns-in-Some-clause-refused c =
+    let ss = statements_of c.args.raw.now in
+    let m = model_of c.in_ok-model.model in
+    let first = c.in-Some.ensures in
+    inr (subst (λ (n : ℕ). RefusesModel ss (Unresolved n)) (sym first.number) (a_large_demand m first.front first.back first.link c.in_ok-model.ensures.made first.split first.before first.large))
 
 pub returns-clause-only : goal.returns-clause-only
-returns-clause-only c form made =
-    let all : Makes no_model 1 (statements_of c.args.raw.now) (model_of c.statements.model) = all_taken (statements_of c.args.raw.now) (model_of c.statements.model) c.args.raw.now.statements.items c.statements.place (rw c.deref-statement-items.ensures.value at c.statements-test.false) c.statements.invariant in
-    c.in_ok-finished.ensures.finished ∙ resolved_once (statements_of c.args.raw.now) (model_of c.statements.model) form all made
+returns-clause-only c form made = c.in_ok-model.ensures.only form made.resolved
