@@ -1,6 +1,6 @@
 -- From what the parts answer to what is answered to the bytes.
-use Rattle.std.proofs.Common.{◌≡◌, ℕ, ◌≤◌, ◌⊎◌, Bool, List, length, Some, None, refl, ⊎_elim}
-use Rattle.std.specs.Prelude.{codes, Option}
+use Rattle.std.proofs.Common.{◌≡◌, ℕ, ◌≤◌, ◌⊎◌, Bool, List, length, Some, None, ⊎_elim}
+use Rattle.std.specs.Prelude.{Option}
 use Rattle.model_text.specs.declared.text.TextRefusal.{TextRefusal}
 use Rattle.model_text.specs.declared.text.TextRefusal.TheVariants as texts
 use Rattle.model_text.specs.Statements.{StatementForm}
@@ -12,11 +12,10 @@ use Rattle.goal_model.specs.Resolution.{RefusesModel}
 use Rattle.kaos_program.specs.declared.command.Command.{Command}
 use Rattle.kaos_program.specs.declared.command.Command.TheVariants.{Check, Trace}
 use Rattle.kaos_program.specs.declared.report.Report.{Report}
-use Rattle.kaos_program.specs.Undecided.{first_undecided}
 use Rattle.kaos_program.specs.Reports.{Reports, status_of}
 use Rattle.kaos_program.specs.Truths.{AreTruths, status_of_truths}
-use Rattle.kaos_program.specs.Texts.{text_refusal, model_refusal, statement_refusal, report_text, truths_text}
-use Rattle.kaos_program.specs.Answering.{IsAccepted, IsRefused, a_text, its_statements, Answers, a_refusal, an_undecided_statement, a_report, truths}
+use Rattle.kaos_program.specs.Texts.{text_refusal, model_refusal, report_text, truths_text}
+use Rattle.kaos_program.specs.Answering.{IsAccepted, IsRefused, a_text, its_statements, Answers, a_refusal, a_report, truths}
 
 -- a cause that is not want of memory
 pub text_cause : (bytes : List ℕ) (e : TextRefusal) → (e ≡ texts.Memory) ⊎ Refuses bytes e → (e ≡ texts.Memory → ⊥) → Refuses bytes e
@@ -31,22 +30,13 @@ text_line bytes e line size cause is = rw is (a_text e size cause)
 pub model_line : (bytes : List ℕ) (ss : List StatementForm) (e : ModelRefusal) (line : List ℕ) → length bytes ≤ 1048576 → IsReadable bytes ss → RefusesModel ss e → line ≡ model_refusal e → IsRefused bytes line
 model_line bytes ss e line size read cause is = rw is (its_statements ss e size read cause)
 
-pub undecided : (bytes : List ℕ) (ss : List StatementForm) (m : ModelForm) (number status : ℕ) (report : Option Report) (out : List ℕ) → IsAccepted bytes ss m → first_undecided 0 1 ss ≡ Some number → status ≡ 2 → report ≡ None → out ≡ statement_refusal number (codes "NotBuilt")
-    → Answers bytes Check status report out
-undecided bytes ss m number status report out a first s r o = rw (s, r, o) (an_undecided_statement ss m number a first)
-
-pub reported : (bytes : List ℕ) (ss : List StatementForm) (m : ModelForm) (r : Report) (status : ℕ) (out : List ℕ) → IsAccepted bytes ss m → first_undecided 0 1 ss ≡ None → Reports m r → status ≡ status_of r → out ≡ report_text m.names r
+pub reported : (bytes : List ℕ) (ss : List StatementForm) (m : ModelForm) (r : Report) (status : ℕ) (out : List ℕ) → IsAccepted bytes ss m → Reports m r → status ≡ status_of r → out ≡ report_text m.names m.ranges r
     → Answers bytes Check status (Some r) out
-reported bytes ss m r status out a decided reports s o = rw (s, o) (a_report ss m r a decided reports)
+reported bytes ss m r status out a reports s o = rw (s, o) (a_report ss m r a reports)
 
 pub traced : (bytes : List ℕ) (ss : List StatementForm) (m : ModelForm) (rows : List (List Bool)) (status : ℕ) (out : List ℕ) → IsAccepted bytes ss m → AreTruths m rows → status ≡ status_of_truths rows → out ≡ truths_text m rows
     → Answers bytes Trace status None out
 traced bytes ss m rows status out a right s o = rw (s, o) (truths ss m rows a right)
-
--- an option that is no value
-pub none_else : {A : Type 0} (o : Option A) → ((x : A) → o ≡ Some x → ⊥) → o ≡ None
-none_else None other = refl
-none_else (Some x) other = absurd (other x refl)
 
 pub refused_line : (command : Command) (bytes line : List ℕ) (status : ℕ) (report : Option Report) (out : List ℕ) → IsRefused bytes line → status ≡ 2 → report ≡ None → out ≡ line → Answers bytes command status report out
 refused_line command bytes line status report out refused s r o = rw (s, r, o) (a_refusal command line refused)

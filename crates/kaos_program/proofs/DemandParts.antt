@@ -27,16 +27,16 @@ parent_named xs k p g same inside is =
     let here : k < length xs = rw same (rw length-map at inside) in
     sym (name_inside xs k g here is) ∙ ap (λ (i : ℕ). slice_index_or (map (λ (f : NamedFormula). f.name) (map goal_of xs)) i []) same
 
-AreEntries-push : (m : ModelForm) (ls : List LinkForm) (es : List Entry) (l : LinkForm) (e : Entry) → AreEntries m ls es → IsEntry m l e → AreEntries m (ls ++ l ∷ []) (es ++ e ∷ [])
-AreEntries-push m [] [] l e all one = (one, tt)
-AreEntries-push m [] (f ∷ es) l e all one = absurd all
-AreEntries-push m (k ∷ ls) [] l e all one = absurd all
-AreEntries-push m (k ∷ ls) (f ∷ es) l e all one = (all.0, AreEntries-push m ls es l e all.1 one)
+AreEntries-push : (m : ModelForm) (budget : ℕ) (ls : List LinkForm) (es : List Entry) (l : LinkForm) (e : Entry) → AreEntries m budget ls es → IsEntry m budget l e → AreEntries m budget (ls ++ l ∷ []) (es ++ e ∷ [])
+AreEntries-push m budget [] [] l e all one = (one, tt)
+AreEntries-push m budget [] (f ∷ es) l e all one = absurd all
+AreEntries-push m budget (k ∷ ls) [] l e all one = absurd all
+AreEntries-push m budget (k ∷ ls) (f ∷ es) l e all one = (all.0, AreEntries-push m budget ls es l e all.1 one)
 
 -- one link further
-pub entries_more : (m : ModelForm) (xs : List code.Link) (es fs : List Entry) (i : ℕ) (x : code.Link) (e : Entry) → i < length xs → x ≡ get_or xs i x → AreEntries m (map link_of (take i xs)) es → IsEntry m (link_of x) e → fs ≡ es ++ e ∷ []
-    → AreEntries m (map link_of (take (i + 1) xs)) fs
-entries_more m xs es fs i x e inside is all one pushed =
+pub entries_more : (m : ModelForm) (budget : ℕ) (xs : List code.Link) (es fs : List Entry) (i : ℕ) (x : code.Link) (e : Entry) → i < length xs → x ≡ get_or xs i x → AreEntries m budget (map link_of (take i xs)) es → IsEntry m budget (link_of x) e → fs ≡ es ++ e ∷ []
+    → AreEntries m budget (map link_of (take (i + 1) xs)) fs
+entries_more m budget xs es fs i x e inside is all one pushed =
     let front : map link_of (take (i + 1) xs) ≡ map link_of (take i xs) ++ link_of x ∷ [] =
     ap (map link_of) (take_more xs i x inside ∙ ap (λ (y : code.Link). take i xs ++ y ∷ []) (sym is)) ∙ map-append link_of (take i xs) (x ∷ []) in
-    rw (front, pushed) (AreEntries-push m (map link_of (take i xs)) es (link_of x) e all one)
+    rw (front, pushed) (AreEntries-push m budget (map link_of (take i xs)) es (link_of x) e all one)

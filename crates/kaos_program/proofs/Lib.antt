@@ -1,10 +1,10 @@
 pub mod ValuesTexts
 pub mod OneWord
+pub mod ModelParts
+pub mod DemandLists
 pub mod DemandParts
-pub mod ValuationLaws
-pub mod ValuationOrder
-pub mod ValuationParts
+pub mod Decisions
+pub mod FittingEvidence
 pub mod RunParts
 pub mod Answering
-pub mod PlainStatements
 pub mod TruthRows

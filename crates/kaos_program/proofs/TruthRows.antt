@@ -19,7 +19,7 @@ use Rattle.goal_model.specs.declared.model.Model.{Model}
 use Rattle.goal_model.specs.Models.{NamedFormula, TraceForm, goal_of, named_trace_of, model_of, sizes_of, TraceIsOver}
 use Rattle.kaos_program.specs.Truths.{AreTruthsOn, AreTruthRows}
 use Rattle.kaos_program.specs.Texts.{truth_line, lines_on, row_lines}
-use Rattle.kaos_program.proofs.ValuationParts.{All-unmap, sizes_same}
+use Rattle.kaos_program.proofs.ModelParts.{All-unmap, sizes_same}
 
 -- ---- what a well-formed model gives
 pub goal_fits : (rs : List RangeForm) (xs : List Goal) (i : ℕ) (x : Goal) → All (λ g. Fits rs g.formula) (map goal_of xs) → i < length xs → x ≡ get_or xs i x → Fits rs (tree_of x.formula)

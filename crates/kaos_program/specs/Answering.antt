@@ -1,5 +1,5 @@
 -- What is answered to the bytes of a text under each command.
-use Rattle.std.specs.Prelude.{◌≡◌, ℕ, ◌<◌, ◌≤◌, ◌^◌, Bool, List, length, vec_len, codes, Option, Some, None}
+use Rattle.std.specs.Prelude.{ℕ, ◌<◌, ◌≤◌, ◌^◌, Bool, List, length, vec_len, Option, Some, None}
 use Rattle.model_text.specs.declared.text.TextRefusal.{TextRefusal}
 use Rattle.model_text.specs.Statements.{StatementForm}
 use Rattle.model_text.specs.Readability.{IsReadable, Refuses}
@@ -13,10 +13,9 @@ use Rattle.kaos_program.specs.declared.answer.Reading.TheVariants.{Accepted, Ref
 use Rattle.kaos_program.specs.declared.command.Command.{Command}
 use Rattle.kaos_program.specs.declared.command.Command.TheVariants.{Check, Trace}
 use Rattle.kaos_program.specs.declared.report.Report.{Report}
-use Rattle.kaos_program.specs.Undecided.{first_undecided}
 use Rattle.kaos_program.specs.Reports.{Reports, status_of}
 use Rattle.kaos_program.specs.Truths.{AreTruths, status_of_truths}
-use Rattle.kaos_program.specs.Texts.{too_long_text, text_refusal, model_refusal, statement_refusal, report_text, truths_text}
+use Rattle.kaos_program.specs.Texts.{too_long_text, text_refusal, model_refusal, report_text, truths_text}
 
 -- the bytes are within their limit and spell these statements, which make this model
 pub record IsAccepted (bytes : List ℕ) (statements : List StatementForm) (m : ModelForm) : Type 0 where
@@ -30,14 +29,12 @@ pub data IsRefused (bytes : List ℕ) : List ℕ → Type 0 where
   a_text : (e : TextRefusal) → length bytes ≤ 1048576 → Refuses bytes e → IsRefused bytes (text_refusal e)
   its_statements : (ss : List StatementForm) (e : ModelRefusal) → length bytes ≤ 1048576 → IsReadable bytes ss → RefusesModel ss e → IsRefused bytes (model_refusal e)
 
--- the status, the report and the output that bytes have under a command: a text that makes no model is refused, and so is under `check`
--- one with a statement that can't be decided yet; else there is the report that answers each demand, or the truth of each goal on each trace
+-- the status, the report and the output that bytes have under a command: a text that makes no model is refused; else there is the report
+-- that answers each demand, or the truth of each goal on each trace
 pub data Answers (bytes : List ℕ) : Command → ℕ → Option Report → List ℕ → Type 0 where
   a_refusal : (command : Command) (line : List ℕ) → IsRefused bytes line → Answers bytes command 2 None line
-  an_undecided_statement : (ss : List StatementForm) (m : ModelForm) (number : ℕ) → IsAccepted bytes ss m → first_undecided 0 1 ss ≡ Some number
-      → Answers bytes Check 2 None (statement_refusal number (codes "NotBuilt"))
-  a_report : (ss : List StatementForm) (m : ModelForm) (report : Report) → IsAccepted bytes ss m → first_undecided 0 1 ss ≡ None → Reports m report
-      → Answers bytes Check (status_of report) (Some report) (report_text m.names report)
+  a_report : (ss : List StatementForm) (m : ModelForm) (report : Report) → IsAccepted bytes ss m → Reports m report
+      → Answers bytes Check (status_of report) (Some report) (report_text m.names m.ranges report)
   truths : (ss : List StatementForm) (m : ModelForm) (rows : List (List Bool)) → IsAccepted bytes ss m → AreTruths m rows
       → Answers bytes Trace (status_of_truths rows) None (truths_text m rows)
 

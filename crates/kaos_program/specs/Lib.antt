@@ -1,11 +1,9 @@
 pub mod Commands
 pub mod Demands
-pub mod Plain
-pub mod Undecided
-pub mod Valuations
 pub mod Reports
 pub mod Truths
 pub mod Texts
+pub mod Fitting
 pub mod Answering
 pub mod Running
 pub mod Finishing

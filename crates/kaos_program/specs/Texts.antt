@@ -1,18 +1,22 @@
 -- The texts that are written.
-use Rattle.std.specs.Prelude.{ℕ, Bool, List, [], ◌∷◌, ◌++◌, length, codes, decimal, ◌==◌, if◌then◌else◌}
+use Rattle.std.specs.Prelude.{ℕ, Bool, true, false, List, [], ◌∷◌, map, ◌++◌, length, codes, decimal, ◌==◌, if◌then◌else◌}
 use Rattle.std.specs.List.{flat_map}
+use Rattle.state_space.specs.Ranges.{RangeForm, size_of}
+use Rattle.state_space.specs.ValueTexts.{value_text}
+use Rattle.tableau_rules.specs.CertSeen.{cert_of}
+use Rattle.elimination_cert.specs.CertTexts.{cert_text}
 use Rattle.temporal_logic.specs.Rows.{rows}
 use Rattle.temporal_logic.specs.declared.lasso.Lasso.{Lasso}
 use Rattle.kaos_program.specs.declared.report.LabelKind.{LabelKind}
 use Rattle.kaos_program.specs.declared.report.LabelKind.TheVariants.{Complete}
 use Rattle.kaos_program.specs.declared.report.Label.{Label}
 use Rattle.kaos_program.specs.declared.report.Verdict.{Verdict}
-use Rattle.kaos_program.specs.declared.report.Verdict.TheVariants.{Holds, Fails}
+use Rattle.kaos_program.specs.declared.report.Verdict.TheVariants.{Holds, Fails, Withheld}
 use Rattle.kaos_program.specs.declared.report.Evidence.{Evidence}
-use Rattle.kaos_program.specs.declared.report.Evidence.TheVariants.{Nothing, Trace}
+use Rattle.kaos_program.specs.declared.report.Evidence.TheVariants.{Nothing, Elimination, Trace}
 use Rattle.kaos_program.specs.declared.report.Entry.{Entry}
 use Rattle.kaos_program.specs.declared.report.Report.{Report}
-use Rattle.kaos_program.specs.Reports.{held_count, failed_count}
+use Rattle.kaos_program.specs.Reports.{held_count, failed_count, withheld_count}
 use Rattle.goal_model.specs.declared.resolution.ModelRefusal.{ModelRefusal}
 use Rattle.goal_model.specs.declared.resolution.ModelRefusal.TheVariants.{NotBuilt, Unresolved}
 use Rattle.goal_model.specs.declared.resolution.ModelRefusal.TheVariants as model_refusals
@@ -38,46 +42,49 @@ label_text label = codes "refine " ++ decimal label.statement ++ names_text labe
 abbrev pub verdict_text : Verdict → List ℕ
 verdict_text Holds = codes "holds"
 verdict_text Fails = codes "fails"
-
--- index 1 of a boolean variable is true
-abbrev pub value_text : ℕ → List ℕ
-value_text v = if v == 1 then codes "true" else codes "false"
+verdict_text (Withheld number) = codes "withheld at " ++ decimal number
 
 -- ` NAME=VALUE`
-unfoldable pub setting_text : List ℕ → ℕ → List ℕ
-setting_text x v = codes " " ++ x ++ codes "=" ++ value_text v
+unfoldable pub setting_text : List ℕ → RangeForm → ℕ → List ℕ
+setting_text x range v = codes " " ++ x ++ codes "=" ++ value_text range v
 
 -- the value of each variable
-abbrev pub values_text : List (List ℕ) → List ℕ → List ℕ
-values_text [] values = []
-values_text (x ∷ xs) [] = []
-values_text (x ∷ xs) (v ∷ vs) = setting_text x v ++ values_text xs vs
+abbrev pub values_text : List (List ℕ) → List RangeForm → List ℕ → List ℕ
+values_text (x ∷ xs) (range ∷ ranges) (v ∷ vs) = setting_text x range v ++ values_text xs ranges vs
+values_text _ _ _ = []
 
-abbrev pub state_text : List (List ℕ) → List ℕ → List ℕ
-state_text names values = codes "  state" ++ values_text names values ++ codes "\n"
+abbrev pub state_text : List (List ℕ) → List RangeForm → List ℕ → List ℕ
+state_text names ranges values = codes "  state" ++ values_text names ranges values ++ codes "\n"
 
 -- the lengths of prefix and loop, and a line for each state
-abbrev pub lasso_text : List (List ℕ) → Lasso → List ℕ
-lasso_text names l =
+abbrev pub lasso_text : List (List ℕ) → List RangeForm → Lasso → List ℕ
+lasso_text names ranges l =
     codes "  lasso " ++ decimal (length l.prefix.items) ++ codes " " ++ decimal (length l.cycle.items) ++ codes "\n"
-    ++ flat_map (state_text names) (rows l.prefix.items) ++ flat_map (state_text names) (rows l.cycle.items)
+    ++ flat_map (state_text names ranges) (rows l.prefix.items) ++ flat_map (state_text names ranges) (rows l.cycle.items)
 
-abbrev pub evidence_text : List (List ℕ) → Evidence → List ℕ
-evidence_text names Nothing = []
-evidence_text names (Trace l) = lasso_text names l
+-- two blanks before each line, where the first byte begins one or goes on with one
+abbrev pub indented : Bool → List ℕ → List ℕ
+indented begins [] = []
+indented true (byte ∷ bytes) = codes "  " ++ byte ∷ indented (byte == 10) bytes
+indented false (byte ∷ bytes) = byte ∷ indented (byte == 10) bytes
+
+abbrev pub evidence_text : List (List ℕ) → List RangeForm → Evidence → List ℕ
+evidence_text names ranges Nothing = []
+evidence_text names ranges (Elimination cert) = indented true (cert_text (map size_of ranges) (cert_of cert))
+evidence_text names ranges (Trace l) = lasso_text names ranges l
 
 -- a verdict line, and the evidence
-unfoldable pub entry_text : List (List ℕ) → Entry → List ℕ
-entry_text names e = label_text e.label ++ codes ": " ++ verdict_text e.verdict ++ codes "\n" ++ evidence_text names e.evidence
+unfoldable pub entry_text : List (List ℕ) → List RangeForm → Entry → List ℕ
+entry_text names ranges e = label_text e.label ++ codes ": " ++ verdict_text e.verdict ++ codes "\n" ++ evidence_text names ranges e.evidence
 
-unfoldable pub total_text : ℕ → ℕ → List ℕ
-total_text held failed = codes "total: " ++ decimal held ++ codes " hold, " ++ decimal failed ++ codes " fail, 0 withheld\n"
+unfoldable pub total_text : ℕ → ℕ → ℕ → List ℕ
+total_text held failed withheld = codes "total: " ++ decimal held ++ codes " hold, " ++ decimal failed ++ codes " fail, " ++ decimal withheld ++ codes " withheld\n"
 
--- the whole report, over the names of the model's variables
-unfoldable pub report_text : List (List ℕ) → Report → List ℕ
-report_text names report =
-    codes "kaos report 1 budget " ++ decimal report.budget ++ codes "\n" ++ flat_map (entry_text names) report.entries.items
-    ++ total_text (held_count report) (failed_count report)
+-- the whole report, over the names and ranges of the model's variables
+unfoldable pub report_text : List (List ℕ) → List RangeForm → Report → List ℕ
+report_text names ranges report =
+    codes "kaos report 1 budget " ++ decimal report.budget ++ codes "\n" ++ flat_map (entry_text names ranges) report.entries.items
+    ++ total_text (held_count report) (failed_count report) (withheld_count report)
 
 -- ---- traces
 

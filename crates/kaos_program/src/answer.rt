@@ -1,26 +1,26 @@
 //! The answer to the bytes of a text: the status, the report and the output. It reads and writes nothing.
 
-ghost use Rattle.std.specs.Prelude.{◌≡◌, ◌≤◌, ◌<◌, ◌^◌, ℕ, List, None, length, vec_len, map, IfOk};
+ghost use Rattle.std.specs.Prelude.{◌≡◌, ◌⊎◌, ◌≤◌, ◌<◌, ℕ, List, None, length, map, All, IfOk};
 ghost use Rattle.std.specs.List.{list_all};
-ghost use Rattle.model_text.specs.Statements.{StatementForm, statements_of};
+ghost use Rattle.model_text.specs.Statements.{StatementForm};
 ghost use Rattle.goal_model.specs.Models.{model_of, IsWellFormed};
-ghost use Rattle.goal_model.specs.Resolution.{IsModel};
+ghost use Rattle.goal_model.specs.Demands.{IsAnswerable};
 ghost use Rattle.kaos_program.specs.Answering.{IsAccepted, ReadsTo, Answers};
 ghost use Rattle.kaos_program.specs.Reports.{status_of as status_of_report};
 ghost use Rattle.kaos_program.specs.Truths.{status_of_truths as status_of_rows};
 
 use crate::command::Command;
 use crate::demand::report;
-use crate::refusal_text::{model_refusal, statement_refusal, text_refusal};
+use crate::refusal_text::{model_refusal, text_refusal};
 use crate::report::Report;
 use crate::text::{counts, report_text};
 use crate::truths::truths;
 use crate::truths_text::truths_text;
-use crate::undecided::first_undecided;
 use goal_model::{Model, resolve};
 use model_text::{RawModel, read_model};
 use source_sink::Memory;
 use std::alloc::Global;
+use tableau_rules::Answerer;
 
 /// Bytes that a text may have.
 pub(crate) const MOST_BYTES: usize = 1_048_576;
@@ -70,23 +70,25 @@ fn read(alloc: Global, bytes: &[u8]) -> Result<Reading, Memory>
 fn status_of(report: &Report) -> u8
     ensures { result ≡ status_of_report report.now }
 {
-    let (_, failed) = counts(report);
-    if failed == 0 { 0 } else { 1 }
+    let totals = counts(report);
+    if totals.failed > 0 {
+        1
+    } else if totals.withheld > 0 {
+        6
+    } else {
+        0
+    }
 }
 
-// The report on a model, if all of its statements can be decided.
-fn check(alloc: Global, raw: &RawModel, model: &Model) -> Result<Answer, Memory>
-    requires few { vec_len raw.now.statements < 2 ^ 32 }
-    requires made { IsModel (statements_of raw.now) (model_of model.now) }
+// The report on a model.
+fn check<A: Answerer>(alloc: Global, answerer: &A, model: &Model) -> Result<Answer, Memory>
+    requires answerable { All (IsAnswerable (model_of model.now)) (model_of model.now).links }
     requires well_formed { IsWellFormed (model_of model.now) }
-    ensures answered { (bytes : List ℕ) → IsAccepted bytes (statements_of raw.now) (model_of model.now)
+    ensures answered { (bytes : List ℕ) (ss : List StatementForm) → IsAccepted bytes ss (model_of model.now)
         → IfOk result (λ a. Answers bytes Command.Check a.status a.report a.output.items) }
-    ensures status { IfOk result (λ a. a.status < 3) }
+    ensures status { IfOk result (λ a. (a.status < 3) ⊎ (a.status ≡ 6)) }
 {
-    if let Some(number) = first_undecided(&raw.statements) {
-        return Ok(refused(statement_refusal(alloc, number, b"NotBuilt")?));
-    }
-    let report = report(alloc, model)?;
+    let report = report(alloc, answerer, model)?;
     let output = report_text(alloc, &model.space, &report)?;
     Ok(Answer {
         status: status_of(&report),
@@ -129,17 +131,22 @@ fn trace(alloc: Global, model: &Model) -> Result<Answer, Memory>
 }
 
 /// The answer to bytes within the limit under a command.
-pub(crate) fn answer_to(alloc: Global, command: Command, bytes: &[u8]) -> Result<Answer, Memory>
+pub(crate) fn answer_to<A: Answerer>(
+    alloc: Global,
+    answerer: &A,
+    command: Command,
+    bytes: &[u8],
+) -> Result<Answer, Memory>
     requires { length bytes.now ≤ MOST_BYTES }
     ensures answered { IfOk result (λ a. Answers bytes.now command a.status a.report a.output.items) }
-    ensures status { IfOk result (λ a. a.status < 3) }
+    ensures status { IfOk result (λ a. (a.status < 3) ⊎ (a.status ≡ 6)) }
 {
-    let (raw, model) = match read(alloc, bytes)? {
-        Reading::Accepted(raw, model) => (raw, model),
+    let model = match read(alloc, bytes)? {
+        Reading::Accepted(_, model) => model,
         Reading::Refused(line) => return Ok(refused(line)),
     };
     match command {
-        Command::Check => check(alloc, &raw, &model),
+        Command::Check => check(alloc, answerer, &model),
         Command::Trace => trace(alloc, &model),
     }
 }

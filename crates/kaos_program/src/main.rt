@@ -1,6 +1,5 @@
-//! Answers whether the links of a goal model hold, with evidence, and which goals are true on the
-//! traces of a model: `main` hands its words, its
-//! standard input and its standard output to `run`, whose clauses say what is answered.
+//! Answers whether the links of a goal model hold, with evidence, and which goals are true on the traces of a model: `main` hands its
+//! words, its standard input and its standard output to `run`, whose clauses say what is answered.
 #![tactic(auto)]
 
 mod answer;
@@ -14,9 +13,8 @@ mod tests;
 mod text;
 mod truths;
 mod truths_text;
-mod undecided;
-mod valuations;
 
+use entailment::Engine;
 use run::run;
 use source_sink::{StdSink, StdSource};
 use std::process::ExitCode;
@@ -34,6 +32,6 @@ fn main(rt: HostRuntime) -> ExitCode {
     }
     let mut source = StdSource::new(rt.reader());
     let mut sink = StdSink::new(io::writer(&rt));
-    let outcome = run(rt.alloc(), &words, &mut source, &mut sink);
+    let outcome = run(rt.alloc(), &words, &mut source, &mut sink, &Engine);
     ExitCode::from(outcome.status.0)
 }

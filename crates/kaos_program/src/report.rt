@@ -1,6 +1,7 @@
 //! Reports: an answer to each demand of a model, with its evidence.
 
 use state_space::Name;
+use tableau_rules::Cert;
 use temporal_logic::Lasso;
 
 /// What a demand asks.
@@ -24,19 +25,23 @@ pub struct Label {
 pub enum Verdict {
     Holds,
     Fails,
+    /// The demand's tableau has more nodes than the budget, which is given.
+    Withheld(u32),
 }
 
 /// Why a verdict is so.
-#[derive(Debug, Drop)]
+#[derive(Drop)]
 pub enum Evidence {
     /// Nothing is shown.
     Nothing,
+    /// A certificate that no trace meets the demand's list.
+    Elimination(Cert),
     /// A trace that meets the demand's list.
     Trace(Lasso),
 }
 
 /// One demand, its verdict and the evidence.
-#[derive(Debug, Drop)]
+#[derive(Drop)]
 pub struct Entry {
     pub label: Label,
     pub verdict: Verdict,
@@ -44,7 +49,7 @@ pub struct Entry {
 }
 
 /// The answers to all demands of a model, in the order of its links.
-#[derive(Debug, Drop)]
+#[derive(Drop)]
 pub struct Report {
     /// The number of nodes that a demand's tableau may have.
     pub budget: u32,

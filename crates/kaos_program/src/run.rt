@@ -14,6 +14,7 @@ use crate::command::{Command, command_of};
 use crate::report::Report;
 use source_sink::{Memory, ReadAll, Sink, Source, WriteFault, read_all, write_all_of};
 use std::alloc::Global;
+use tableau_rules::Answerer;
 
 /// The commands, a line for each.
 const USAGE: &[u8] = b"usage: kaos check\n       kaos trace\n";
@@ -22,8 +23,8 @@ const USAGE: &[u8] = b"usage: kaos check\n       kaos trace\n";
 #[derive(Clone, Copy, Debug, PartialEq, Eq)]
 pub struct Status(pub u8);
 
-/// How a run ends. The report is there under `check` where the status is 0 or 1, and where it is 5 and the text was accepted.
-#[derive(Debug, Drop)]
+/// How a run ends. The report is there under `check` where the status is 0, 1 or 6, and where it is 5 and the text was accepted.
+#[derive(Drop)]
 pub struct Outcome {
     pub status: Status,
     pub report: Option<Report>,
@@ -53,16 +54,19 @@ fn finish<K: Sink>(sink: &mut K, due: Outcome, output: &[u8]) -> Outcome
     }
 }
 
-/// One run of `kaos`: the words are looked at, the source is read to its end, and the output is written.
-pub fn run<S: Source, K: Sink>(
+/// One run of `kaos`: the words are looked at, the source is read to its end, and the output is written. The answerer decides the
+/// demands.
+pub fn run<S: Source, K: Sink, A: Answerer>(
     alloc: Global,
     words: &[String],
     source: &mut S,
     sink: &mut K,
+    answerer: &A,
 ) -> Outcome
-    // 0, 1 and 2: the words are accepted, and the whole answer to all bytes of the source is written. It is 0 or 1 where the text is
-    // accepted, 1 exactly where a demand fails or a goal is false on a trace, and 2 where the text is refused.
-    ensures answered { result.status.0 < 3 → (command : Command) × AreWords words.now command × (output : List ℕ) × AnswersAll command (S.left source.old) (S.left source.new) result.status.0 result.report output
+    // 0, 1, 2 and 6: the words are accepted, and the whole answer to all bytes of the source is written. It is 0, 1 or 6 where the text
+    // is accepted, 1 exactly where a demand fails or a goal is false on a trace, 6 where none fails and one is withheld, and 2 where the
+    // text is refused.
+    ensures answered { (result.status.0 < 3) ⊎ (result.status.0 ≡ 6) → (command : Command) × AreWords words.now command × (output : List ℕ) × AnswersAll command (S.left source.old) (S.left source.new) result.status.0 result.report output
         × Appends (K.held sink.old) (K.held sink.new) output }
     // 3: the words are not accepted. The source is untouched, and the usage text is written.
     ensures words { result.status.0 ≡ 3 → AreOtherWords words.now × (S.left source.new ≡ S.left source.old) × (result.report ≡ None)
@@ -75,7 +79,7 @@ pub fn run<S: Source, K: Sink>(
         × IsDue words.now (S.left source.old) (S.left source.new) due result.report output × AppendsFront (K.held sink.old) (K.held sink.new) output }
     // 7: the words are accepted, and memory ran out. Nothing is written.
     ensures memory { result.status.0 ≡ 7 → (command : Command) × AreWords words.now command × (result.report ≡ None) × Keeps (K.held sink.old) (K.held sink.new) }
-    ensures statuses { (result.status.0 ≤ 5) ⊎ (result.status.0 ≡ 7) }
+    ensures statuses { result.status.0 < 8 }
 {
     let Some(command) = command_of(words) else {
         return finish(sink, without_report(3), USAGE);
@@ -89,7 +93,7 @@ pub fn run<S: Source, K: Sink>(
         Err(ReadAll::ReadFault) => return without_report(4),
         Err(ReadAll::Memory) => return without_report(7),
     };
-    match answer_to(alloc, command, &bytes) {
+    match answer_to(alloc, answerer, command, &bytes) {
         Ok(answer) => {
             let due = Outcome {
                 status: Status(answer.status),

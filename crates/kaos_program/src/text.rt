@@ -1,18 +1,31 @@
 //! The texts of reports, in the order in which a report has its lines.
 
-ghost use Rattle.std.specs.Prelude.{◌≡◌, ◌++◌, decimal, OnOk, IfOk};
+ghost use Rattle.std.specs.Prelude.{◌≡◌, ◌<◌, ◌++◌, true, decimal, All, OnOk, IfOk};
 ghost use Rattle.std.specs.List.{flat_map};
-ghost use Rattle.state_space.specs.Spaces.{names};
-ghost use Rattle.temporal_logic.specs.Rows.{rows};
-ghost use Rattle.kaos_program.specs.Reports.{held_count, failed_count};
-ghost use Rattle.kaos_program.specs.Texts.{names_text, label_text, verdict_text, value_text, setting_text, values_text, state_text, lasso_text, evidence_text, entry_text, total_text, report_text as text_of_report};
+ghost use Rattle.state_space.specs.Fitting.{ValuesFit};
+ghost use Rattle.state_space.specs.Ranges.{form_of, size_of};
+ghost use Rattle.state_space.specs.Spaces.{names, ranges, sizes};
+ghost use Rattle.temporal_logic.specs.Lassos.{IsOfSpace};
+ghost use Rattle.temporal_logic.specs.Rows.{rows, AllFit};
+ghost use Rattle.kaos_program.specs.Fitting.{EvidenceFits};
+ghost use Rattle.kaos_program.specs.Reports.{held_count, failed_count, withheld_count};
+ghost use Rattle.kaos_program.specs.Texts.{names_text, label_text, verdict_text, setting_text, values_text, state_text, lasso_text, indented, evidence_text, entry_text, total_text, report_text as text_of_report};
 
 use crate::report::{Entry, Evidence, Label, LabelKind, Report, Verdict};
+use elimination_cert::cert_text;
 use itoa::Buffer;
 use source_sink::Memory;
-use state_space::{Name, Space, State, VarId};
+use state_space::{Name, Range, Space, State, VarId};
 use std::alloc::Global;
 use temporal_logic::Lasso;
+
+/// How many demands have each verdict.
+#[derive(Clone, Copy, Debug)]
+pub(crate) struct Totals {
+    pub(crate) held: u64,
+    pub(crate) failed: u64,
+    pub(crate) withheld: u64,
+}
 
 /// Bytes behind those that are there.
 pub(crate) fn put(out: &mut Vec<u8>, bytes: &[u8]) -> Result<(), Memory>
@@ -51,38 +64,37 @@ fn put_label(out: &mut Vec<u8>, label: &Label) -> Result<(), Memory>
     }
 }
 
-fn put_value(out: &mut Vec<u8>, value: u8) -> Result<(), Memory>
-    ensures { OnOk result (out.new.items ≡ out.old.items ++ value_text value) }
-{
-    if value == 1 {
-        put(out, b"true")
-    } else {
-        put(out, b"false")
-    }
-}
-
 #[tactic(auto, unfolding(crate::specs::Texts::setting_text))]
-fn put_setting(out: &mut Vec<u8>, name: &Name, value: u8) -> Result<(), Memory>
-    ensures { OnOk result (out.new.items ≡ out.old.items ++ setting_text name.now value) }
+fn put_setting(out: &mut Vec<u8>, name: &Name, range: &Range, value: u8) -> Result<(), Memory>
+    requires { value < size_of (form_of range.now) }
+    ensures { OnOk result (out.new.items ≡ out.old.items ++ setting_text name.now (form_of range.now) value) }
 {
     put(out, b" ")?;
     put(out, name.bytes())?;
     put(out, b"=")?;
-    put_value(out, value)
+    range.put_value(out, value)?;
+    Ok(())
 }
 
 fn put_values(out: &mut Vec<u8>, space: &Space, values: &[u8]) -> Result<(), Memory>
-    ensures { OnOk result (out.new.items ≡ out.old.items ++ values_text (names space.now) values.now) }
+    requires { ValuesFit (sizes space.now) values.now }
+    ensures { OnOk result (out.new.items ≡ out.old.items ++ values_text (names space.now) (ranges space.now) values.now) }
 {
-    let count = values.len().min(space.count() as usize);
-    'values: for x in 0..count {
-        put_setting(out, space.name_of(VarId(x as u8)), values[x])?;
+    'values: for x in 0..space.count() {
+        let id = VarId(x);
+        put_setting(
+            out,
+            space.name_of(id),
+            space.range_of(id),
+            values[x as usize],
+        )?;
     }
     Ok(())
 }
 
 fn put_states(out: &mut Vec<u8>, space: &Space, states: &[State]) -> Result<(), Memory>
-    ensures { OnOk result (out.new.items ≡ out.old.items ++ flat_map (state_text (names space.now)) (rows states.now)) }
+    requires { AllFit (sizes space.now) states.now }
+    ensures { OnOk result (out.new.items ≡ out.old.items ++ flat_map (state_text (names space.now) (ranges space.now)) (rows states.now)) }
 {
     'states: for state in states {
         put(out, b"  state")?;
@@ -93,7 +105,8 @@ fn put_states(out: &mut Vec<u8>, space: &Space, states: &[State]) -> Result<(), 
 }
 
 fn put_lasso(out: &mut Vec<u8>, space: &Space, lasso: &Lasso) -> Result<(), Memory>
-    ensures { OnOk result (out.new.items ≡ out.old.items ++ lasso_text (names space.now) lasso.now) }
+    requires { IsOfSpace (sizes space.now) lasso.now }
+    ensures { OnOk result (out.new.items ≡ out.old.items ++ lasso_text (names space.now) (ranges space.now) lasso.now) }
 {
     put(out, b"  lasso ")?;
     put_number(out, lasso.prefix.len() as u64)?;
@@ -104,11 +117,33 @@ fn put_lasso(out: &mut Vec<u8>, space: &Space, lasso: &Lasso) -> Result<(), Memo
     put_states(out, space, &lasso.cycle)
 }
 
-fn put_evidence(out: &mut Vec<u8>, space: &Space, evidence: &Evidence) -> Result<(), Memory>
-    ensures { OnOk result (out.new.items ≡ out.old.items ++ evidence_text (names space.now) evidence.now) }
+// Bytes with two blanks before each line, so that no line of evidence is taken for one of the report.
+fn put_indented(out: &mut Vec<u8>, bytes: &[u8]) -> Result<(), Memory>
+    ensures { OnOk result (out.new.items ≡ out.old.items ++ indented true bytes.now) }
+{
+    let mut begins = true;
+    'bytes: for byte in bytes {
+        if begins {
+            put(out, b"  ")?;
+        }
+        out.push(*byte)?;
+        begins = *byte == b'\n';
+    }
+    Ok(())
+}
+
+fn put_evidence(
+    alloc: Global,
+    out: &mut Vec<u8>,
+    space: &Space,
+    evidence: &Evidence,
+) -> Result<(), Memory>
+    requires { EvidenceFits (sizes space.now) evidence.now }
+    ensures { OnOk result (out.new.items ≡ out.old.items ++ evidence_text (names space.now) (ranges space.now) evidence.now) }
 {
     match evidence {
         Evidence::Nothing => Ok(()),
+        Evidence::Elimination(cert) => put_indented(out, &cert_text(alloc, space, cert)?),
         Evidence::Trace(lasso) => put_lasso(out, space, lasso),
     }
 }
@@ -119,67 +154,85 @@ fn put_verdict(out: &mut Vec<u8>, verdict: Verdict) -> Result<(), Memory>
     match verdict {
         Verdict::Holds => put(out, b"holds"),
         Verdict::Fails => put(out, b"fails"),
+        Verdict::Withheld(number) => {
+            put(out, b"withheld at ")?;
+            put_number(out, number as u64)
+        }
     }
 }
 
 #[tactic(auto, unfolding(crate::specs::Texts::entry_text))]
-fn put_entry(out: &mut Vec<u8>, space: &Space, entry: &Entry) -> Result<(), Memory>
-    ensures { OnOk result (out.new.items ≡ out.old.items ++ entry_text (names space.now) entry.now) }
+fn put_entry(alloc: Global, out: &mut Vec<u8>, space: &Space, entry: &Entry) -> Result<(), Memory>
+    requires { EvidenceFits (sizes space.now) entry.now.evidence }
+    ensures { OnOk result (out.new.items ≡ out.old.items ++ entry_text (names space.now) (ranges space.now) entry.now) }
 {
     put_label(out, &entry.label)?;
     put(out, b": ")?;
     put_verdict(out, entry.verdict)?;
     put(out, b"\n")?;
-    put_evidence(out, space, &entry.evidence)
+    put_evidence(alloc, out, space, &entry.evidence)
 }
 
-fn put_entries(out: &mut Vec<u8>, space: &Space, entries: &[Entry]) -> Result<(), Memory>
-    ensures { OnOk result (out.new.items ≡ out.old.items ++ flat_map (entry_text (names space.now)) entries.now) }
+fn put_entries(
+    alloc: Global,
+    out: &mut Vec<u8>,
+    space: &Space,
+    entries: &[Entry],
+) -> Result<(), Memory>
+    requires { All (λ e. EvidenceFits (sizes space.now) e.evidence) entries.now }
+    ensures { OnOk result (out.new.items ≡ out.old.items ++ flat_map (entry_text (names space.now) (ranges space.now)) entries.now) }
 {
     'entries: for entry in entries {
-        put_entry(out, space, entry)?;
+        put_entry(alloc, out, space, entry)?;
     }
     Ok(())
 }
 
-/// How many demands hold, and how many fail.
-pub(crate) fn counts(report: &Report) -> (u64, u64)
-    ensures held { result.0 ≡ held_count report.now }
-    ensures failed { result.1 ≡ failed_count report.now }
+/// How many demands hold, fail and are withheld.
+pub(crate) fn counts(report: &Report) -> Totals
+    ensures held { result.held ≡ held_count report.now }
+    ensures failed { result.failed ≡ failed_count report.now }
+    ensures withheld { result.withheld ≡ withheld_count report.now }
 {
-    let mut held: u64 = 0;
-    let mut failed: u64 = 0;
+    let mut totals = Totals {
+        held: 0,
+        failed: 0,
+        withheld: 0,
+    };
     'entries: for entry in &report.entries {
         match entry.verdict {
-            Verdict::Holds => held += 1,
-            Verdict::Fails => failed += 1,
+            Verdict::Holds => totals.held += 1,
+            Verdict::Fails => totals.failed += 1,
+            Verdict::Withheld(_) => totals.withheld += 1,
         }
     }
-    (held, failed)
+    totals
 }
 
 #[tactic(auto, unfolding(crate::specs::Texts::total_text))]
-fn put_total(out: &mut Vec<u8>, held: u64, failed: u64) -> Result<(), Memory>
-    ensures { OnOk result (out.new.items ≡ out.old.items ++ total_text held failed) }
+fn put_total(out: &mut Vec<u8>, totals: Totals) -> Result<(), Memory>
+    ensures { OnOk result (out.new.items ≡ out.old.items ++ total_text totals.held totals.failed totals.withheld) }
 {
     put(out, b"total: ")?;
-    put_number(out, held)?;
+    put_number(out, totals.held)?;
     put(out, b" hold, ")?;
-    put_number(out, failed)?;
-    put(out, b" fail, 0 withheld\n")
+    put_number(out, totals.failed)?;
+    put(out, b" fail, ")?;
+    put_number(out, totals.withheld)?;
+    put(out, b" withheld\n")
 }
 
 /// The text of a report on a model over a space.
 #[tactic(auto, unfolding(crate::specs::Texts::report_text))]
 pub(crate) fn report_text(alloc: Global, space: &Space, report: &Report) -> Result<Vec<u8>, Memory>
-    ensures { IfOk result (λ out. out.items ≡ text_of_report (names space.now) report.now) }
+    requires { All (λ e. EvidenceFits (sizes space.now) e.evidence) report.now.entries.items }
+    ensures { IfOk result (λ out. out.items ≡ text_of_report (names space.now) (ranges space.now) report.now) }
 {
     let mut out = Vec::new(alloc);
     put(&mut out, b"kaos report 1 budget ")?;
     put_number(&mut out, report.budget as u64)?;
     put(&mut out, b"\n")?;
-    put_entries(&mut out, space, &report.entries)?;
-    let (held, failed) = counts(report);
-    put_total(&mut out, held, failed)?;
+    put_entries(alloc, &mut out, space, &report.entries)?;
+    put_total(&mut out, counts(report))?;
     Ok(out)
 }

@@ -16,8 +16,13 @@ use state_space::Space;
 use std::alloc::Global;
 use temporal_logic::{Formula, Lasso};
 
-// Whether a formula is true at the start of a lasso.
-fn is_true(alloc: Global, space: &Space, lasso: &Lasso, formula: &Formula) -> Result<bool, Memory>
+/// Whether a formula is true at the start of a lasso.
+pub(crate) fn is_true(
+    alloc: Global,
+    space: &Space,
+    lasso: &Lasso,
+    formula: &Formula,
+) -> Result<bool, Memory>
     requires of_space { IsOfSpace (sizes space.now) lasso.now }
     requires fits { Fits (ranges space.now) (tree_of formula.now) }
     ensures truth { IfOk result (λ b. IsTrue b ↔ Truth (trace_of lasso.now) (tree_of formula.now) 0) }

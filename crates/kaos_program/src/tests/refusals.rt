@@ -55,6 +55,11 @@ fn statements_that_are_not_resolved(rt: HostRuntime) -> Result<(), Fail> {
         ),
         ("65 values", "var x: 0..64;", "statement 5: Unresolved"),
         (
+            "a demand that is too large",
+            "goal R: eventually within 100 eventually within 100 a; refine P by Q; refine R by Q;",
+            "statement 7: Unresolved",
+        ),
+        (
             "a trace named as a goal",
             "trace P: loop {};",
             "statement 5: Unresolved",
@@ -82,27 +87,10 @@ fn statements_that_are_not_built(rt: HostRuntime) -> Result<(), Fail> {
             "goal R: b; obstacle O: a;",
             "statement 5: Unresolved",
         ),
-        ("no always", "goal R: a;", "statement 5: NotBuilt"),
         (
-            "eventually",
-            "goal R: always eventually a;",
-            "statement 5: NotBuilt",
-        ),
-        (
-            "always within",
-            "domain D: always within 1 a;",
-            "statement 5: NotBuilt",
-        ),
-        ("entails", "goal R: a entails a;", "statement 5: NotBuilt"),
-        (
-            "a range of words",
-            "var x: {u, v};",
-            "statement 5: NotBuilt",
-        ),
-        (
-            "a name that is unknown behind it",
-            "goal R: eventually a; goal S: always b;",
-            "statement 6: Unresolved",
+            "a name that is unknown before it",
+            "goal S: always b; obstacle O: a;",
+            "statement 5: Unresolved",
         ),
     ];
     refuses(&rt, rt.alloc(), &rows)
@@ -169,11 +157,6 @@ fn whole_texts(rt: HostRuntime) -> Result<(), Fail> {
             "a formula that is cut off",
             "kaos 1; var a: bool; goal G: always (a or",
             "refused: syntax at byte 41\n",
-        ),
-        (
-            "a formula that is not decided",
-            "kaos 1; var a: bool; goal G: eventually a;",
-            "refused: statement 3: NotBuilt\n",
         ),
     ] {
         answers(&rt, rt.alloc(), name, text.as_bytes(), 2, line)?;

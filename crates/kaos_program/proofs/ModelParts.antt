@@ -1,8 +1,8 @@
 -- The parts of a model's view, by the parts of the model.
-use Rattle.std.proofs.Common.{◌≡◌, ℕ, ◌<◌, ◌↔◌, List, [], ◌∷◌, length, map, sym, ap, ◌∙◌, arith}
+use Rattle.std.proofs.Common.{◌≡◌, ℕ, ◌<◌, List, [], ◌∷◌, length, map, sym, ap, ◌∙◌, arith}
 use Rattle.std.specs.Prelude.{All, slice_index_or}
 use Rattle.std.proofs.lemmas.List.{length-map, get_or-map}
-use Rattle.std.proofs.lemmas.List.Elements.{All-nil, All-cons, All-head, All-tail, All-map}
+use Rattle.std.proofs.lemmas.List.Elements.{All-nil, All-cons, All-head, All-tail}
 use Rattle.std.proofs.lemmas.Simd.{map-map}
 use Rattle.state_space.specs.Ranges.{form_of, size_of}
 use Rattle.state_space.specs.Spaces as spaces
@@ -10,8 +10,8 @@ use Rattle.temporal_logic.specs.Ltl.{truth}
 use Rattle.temporal_logic.specs.Trees.{tree_of}
 use Rattle.goal_model.specs.declared.model.Goal.{Goal}
 use Rattle.goal_model.specs.declared.model.Model.{Model}
-use Rattle.goal_model.specs.Models.{NamedFormula, property_of, goal_of, model_of, sizes_of}
-use Rattle.kaos_program.specs.Demands.{goal_formula}
+use Rattle.goal_model.specs.Models.{goal_of, model_of, sizes_of}
+use Rattle.goal_model.specs.Demands.{goal_formula}
 
 -- what is said of each image is said of what it is the image of
 pub All-unmap : {X Y : Type 0} (P : X → Type 0) (f : Y → X) (ys : List Y) → All P (map f ys) → All (λ y. P (f y)) ys
@@ -28,7 +28,3 @@ goal_at m place g h is =
 -- the sizes of a model are those of its space
 pub sizes_same : (m : Model) → sizes_of (model_of m) ≡ spaces.sizes m.space
 sizes_same m = map-map size_of (λ v. form_of v.range) m.space.variables.items
-
--- what is said of each property's view is said of the view's domain properties
-pub domains_iff : (m : Model) (P : NamedFormula → Type 0) → All (λ p. P (property_of p)) m.domains.items ↔ All P (model_of m).domains
-domains_iff m P = (All-map P property_of m.domains.items, All-unmap P property_of m.domains.items)
