@@ -5,7 +5,7 @@ use state_space::{Values, VarId};
 
 /// What a kid adds to its node.
 #[derive(Clone, Copy, Debug, PartialEq, Eq)]
-pub enum Effect {
+pub(crate) enum Effect {
     /// Nothing.
     Nothing,
     /// A formula that is to be true now.
@@ -22,7 +22,7 @@ pub enum Effect {
 
 /// What comes of a node by the formula whose turn it is: none, one or two kids.
 #[derive(Clone, Copy, Debug, PartialEq, Eq)]
-pub enum Turn {
+pub(crate) enum Turn {
     /// No kid: the formula is false.
     Clash,
     /// A step to the next position.

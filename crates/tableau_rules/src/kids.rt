@@ -6,7 +6,7 @@ ghost use Rattle.tableau_rules.specs.Sets.{with_option};
 ghost use Rattle.tableau_rules.specs.Nodes.{stepped, kids};
 ghost use Rattle.tableau_rules.specs.NodeSeen.{node_of, AreNumbersBelow};
 ghost use Rattle.tableau_rules.specs.Turns.{sets_of, effects_of};
-ghost use Rattle.tableau_rules.specs.KidsSeen.{first_of, second_of, later_of, met_by, set_by, kid_by, count_of};
+ghost use Rattle.tableau_rules.specs.KidsSeen.{first_of, second_of, later_of, met_by, set_by, kid_by};
 
 use crate::bits::Bits;
 use crate::effect::{Effect, Turn};
@@ -149,17 +149,6 @@ fn is_stepped(full: &[Values], node: &Node, other: &Node) -> bool
     other.todo.same(&node.next) && are_same(&other.now, full) && is_empty(&other.next)
 }
 
-// How many kids come of a turn.
-fn count_of(turn: Turn) -> u8
-    ensures count { result ≡ count_of turn }
-{
-    match turn {
-        Turn::Clash => 0,
-        Turn::Step | Turn::One(_) | Turn::FulfilOnly(_) | Turn::WaitOnly(_) => 1,
-        Turn::Two(_, _) | Turn::FulfilOrWait(_, _) => 2,
-    }
-}
-
 // The effect that makes the kid of this number, where there is one.
 fn effect_at(turn: Turn, which: u8) -> Option<Effect>
     ensures effect { result ≡ slice_get (effects_of turn) which }
@@ -188,16 +177,8 @@ fn is_step(turn: Turn) -> bool
     matches!(turn, Turn::Step)
 }
 
-/// How many kids the node has.
-pub fn kid_count(table: &Table, node: &Node) -> u8
-    requires { AreNumbersBelow (length (closure_in table.now)) node.now.todo }
-    ensures count { (full : List ℕ) → result ≡ length (kids (closure_in table.now) full (node_of node.entry.now)) }
-{
-    count_of(turn(table, node).0)
-}
-
 /// The node's kid of this number, where `full` has all indexes of each variable.
-pub fn kid_of(
+pub(crate) fn kid_of(
     alloc: Global,
     table: &Table,
     full: &[Values],
@@ -238,7 +219,13 @@ fn is_made(node: &Node, id: FormulaId, turn: Turn, which: u8, other: &Node) -> b
 
 /// Whether another node is the node's kid of this number. A number that the kids do not reach has
 /// none.
-pub fn is_kid_of(table: &Table, full: &[Values], node: &Node, which: u8, other: &Node) -> bool
+pub(crate) fn is_kid_of(
+    table: &Table,
+    full: &[Values],
+    node: &Node,
+    which: u8,
+    other: &Node,
+) -> bool
     requires { AreNumbersBelow (length (closure_in table.now)) node.now.todo }
     ensures kid { IsTrue result ↔ (slice_get (kids (closure_in table.now) (sets_of full.now) (node_of node.entry.now)) which ≡ Some (node_of other.entry.now)) }
 {

@@ -4,7 +4,10 @@
 ghost use Rattle.std.specs.Prelude.{IsTrue};
 ghost use Rattle.tableau_rules.specs.NodeSeen.{AreNumbersBelow};
 
-use crate::{Bits, Effect, Node, Turn, is_kid_of, kid_count, turn};
+use crate::effect::{Effect, Turn};
+use crate::kids::is_kid_of;
+use crate::node::turn;
+use crate::{Bits, Node};
 use bound_unfolding::Core;
 use formula_table::{FormulaId, Table};
 use source_sink::Memory;
@@ -70,7 +73,6 @@ fn kids(rt: HostRuntime) -> Result<(), Fail> {
     assert!(rt; are_below(&root.todo, table.len()));
     let waits = Effect::Waits(FormulaId(NOT_P), FormulaId(ALWAYS));
     assert_eq!(rt; turn(&table, &root), (Turn::One(waits), FormulaId(ALWAYS)));
-    assert_eq!(rt; kid_count(&table, &root), 1);
     for (which, other, told) in [(0, &kid, true), (1, &kid, false), (0, &no_kid, false)] {
         assert_eq!(rt;
             is_kid_of(&table, &[Values(3)], &root, which, other),

@@ -21,16 +21,14 @@ mod tableau;
 pub use answer::{Answer, Answerer};
 pub use bits::Bits;
 pub use certificate::{Cert, CertNode, Mark, Reason};
-pub use effect::{Effect, Turn};
 pub use graph::{Graph, GraphNode};
-pub use kids::{is_kid_of, kid_count, kid_of};
 pub use kind::RuleKind;
 pub use law::{
     law_of_carrying, law_of_certificates, law_of_nodes, law_of_sizes, law_of_the_rule, law_of_walks,
 };
 pub use level::{does_fulfil, levels};
 pub use link::{Kids, Link, does_carry, links_of};
-pub use node::{Node, turn};
+pub use node::Node;
 pub use query::Query;
 pub use tableau::{is_kid, is_root, kid, root, rule};
 

@@ -57,7 +57,7 @@ fn chosen(table: &Table, todo: &Bits) -> FormulaId
 }
 
 /// The turn of a node, and the formula that it works on. A variable with no index left is a clash.
-pub fn turn(table: &Table, node: &Node) -> (Turn, FormulaId)
+pub(crate) fn turn(table: &Table, node: &Node) -> (Turn, FormulaId)
     requires { AreNumbersBelow (length (closure_in table.now)) node.now.todo }
     ensures rule { rule_in (closure_in table.now) result.0 ≡ node_rule (closure_in table.now) (node_of node.entry.now) }
     ensures chosen { result.1.0 ≡ chosen (closure_in table.now) node.entry.now.todo }
