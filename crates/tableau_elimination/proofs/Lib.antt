@@ -5,3 +5,4 @@ pub mod CertLists
 pub mod Certifying
 pub mod Places
 pub mod SmallWholes
+pub mod RightMarks

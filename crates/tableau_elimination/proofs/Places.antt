@@ -1,5 +1,5 @@
 -- From a whole graph to its places, and from the places that survive to its nodes.
-use Rattle.std.proofs.Common.{◌≡◌, ℕ, zero, suc, ◌<◌, Bool, true, false, not, ◌&&◌, List, [], ◌∷◌, IsTrue, Some, length, refl, inl, inr, sym, ap, subst, ◌∙◌, arith, true≢false}
+use Rattle.std.proofs.Common.{◌≡◌, ℕ, zero, suc, ◌<◌, ◌^◌, Bool, true, false, not, ◌&&◌, List, [], ◌∷◌, IsTrue, Some, length, refl, inl, inr, sym, ap, subst, ◌∙◌, arith, true≢false}
 use Rattle.std.specs.Prelude.{slice_get, slice_index_or, Contains}
 use Rattle.std.proofs.lemmas.List.{length-map}
 use Rattle.state_space.specs.Members.{full_of}
@@ -11,11 +11,14 @@ use Rattle.tableau_rules.specs.Nodes.{NodeForm, carries, node_rule, kids_by, kid
 use Rattle.tableau_rules.specs.Certificates.{is_until}
 use Rattle.tableau_rules.specs.Graphs.{GraphNodeForm, nodes_in, IsWhole}
 use Rattle.tableau_rules.specs.Surviving.{Stays, LeadsToFulfilment, here as leads_here, later as leads_later, Survives}
+use Rattle.tableau_rules.specs.QuerySeen.{cores_in}
+use Rattle.tableau_rules.specs.GraphSeen.{graph_of}
+use Rattle.tableau_elimination.specs.declared.search.Search.{Search}
 use Rattle.tableau_rules.specs.Links.{Among, IsHead, kids_at, fulfils_at, carries_at, IsLinked}
 use Rattle.tableau_rules.specs.Levels.{Alive, ComesTo, here, later, PlacesSurvive}
 use Rattle.tableau_rules.proofs.Lists.{AnyOf, and_true, and_intro}
 use Rattle.tableau_rules.proofs.Linked.{no_graph_node, get_at, get_of, held_at, kids_held, carries_get, in_range, goes_on, all_reached}
-use Rattle.tableau_elimination.specs.Marks.{IsConnected}
+use Rattle.tableau_elimination.specs.Marks.{IsConnected, IsReady}
 
 pub connected : (sizes : List ℕ) (cores : List CoreForm) (graph : List GraphNodeForm) (links : List Link) → IsWhole sizes cores graph → IsLinked cores graph links
     → IsConnected links (carries_at (closure_of cores) graph) (fulfils_at links)
@@ -28,6 +31,16 @@ connected sizes cores graph links whole linked =
       in_range = in_range sizes cores graph links whole linked;
       reached = all_reached sizes cores graph links whole linked;
       goes_on = goes_on sizes cores graph links whole linked;
+    }
+
+pub ready : (search : Search) (sizes : List ℕ) → length (graph_of search.graph.now) < 2 ^ 32 → IsWhole sizes (cores_in search.query.now) (graph_of search.graph.now)
+    → IsLinked (cores_in search.query.now) (graph_of search.graph.now) search.links.now → IsReady search
+ready search sizes few whole linked =
+    let size = linked.size in
+    record {
+      few = omega (arith, few, size);
+      size = sym size;
+      connected = connected sizes (cores_in search.query.now) (graph_of search.graph.now) search.links.now whole linked;
     }
 
 -- ---- what carries is an until of the closure

@@ -1,5 +1,5 @@
 -- Marks of the places of a graph, while more and more places go: when each went, and why.
-use Rattle.std.specs.Prelude.{get_or, ◌≡◌, ℕ, ◌+◌, ◌-◌, ◌<◌, ◌≤◌, ◌^◌, ◌⊎◌, List, [], ◌∷◌, length, Bool, true, false, ◌&&◌, nat_lt, cond, not}
+use Rattle.std.specs.Prelude.{get_or, ◌≡◌, ℕ, ◌+◌, ◌-◌, ◌<◌, ◌≤◌, ◌^◌, ◌⊎◌, List, [], ◌∷◌, length, Bool, true, false, ◌&&◌, nat_lt, nat_eq, cond, not}
 use Rattle.formula_table.specs.Closures.{closure_of}
 use Rattle.tableau_rules.specs.declared.link.Link.{Link}
 use Rattle.tableau_rules.specs.QuerySeen.{cores_in}
@@ -48,6 +48,25 @@ IsRight links carrying fulfilling ranks causes k (Wait e) =
     (carrying e k ≡ true) × HasKid links k
     × ((p : ℕ) → Among p (kids_at links k) → (get_or ranks p 0 < get_or ranks k 0) ⊎ ((get_or ranks p 0 ≡ get_or ranks k 0) × (cause_at causes p ≡ Wait e)))
     × (fulfilling e k ≡ true → (p : ℕ) → IsHead p (kids_at links k) → get_or ranks p 0 < get_or ranks k 0)
+
+-- what a place needs that waits for the until, besides what is said of all its kids
+pub record IsWaiting (links : List Link) (carrying fulfilling : ℕ → ℕ → Bool) (ranks : List ℕ) (e k : ℕ) : Type 0 where
+  pub carries : carrying e k ≡ true
+  pub has_kid : HasKid links k
+  pub later : fulfilling e k ≡ true → (p : ℕ) → IsHead p (kids_at links k) → get_or ranks p 0 < get_or ranks k 0
+
+-- whether both causes are that of waiting for one until
+abbrev pub are_joined : Cause → Cause → Bool
+are_joined (Wait d) (Wait e) = nat_eq d e
+are_joined _ _ = false
+
+-- whether the place went no earlier than the rank says
+abbrev pub is_late : List ℕ → ℕ → ℕ → Bool
+is_late ranks rank p = not (nat_lt (get_or ranks p 0) rank)
+
+-- whether it went neither earlier nor for the same until at the same time
+abbrev pub is_apart : List ℕ → List Cause → ℕ → Cause → ℕ → Bool
+is_apart ranks causes rank cause p = is_late ranks rank p && not (nat_eq (get_or ranks p 0) rank && are_joined cause (cause_at causes p))
 
 -- all places are gone, each for a right cause
 pub record AreRight (links : List Link) (carrying fulfilling : ℕ → ℕ → Bool) (ranks : List ℕ) (causes : List Cause) : Type 0 where

@@ -3,32 +3,20 @@
 //! number of places that were gone before.
 
 ghost use Rattle.std.specs.Prelude.{◌≡◌, ℕ, ◌<◌, ◌^◌, length, IfOk, IsTrue, IsFalse, Bool, false};
-ghost use Rattle.std.specs.List.{AllByRecursion};
 ghost use Rattle.formula_table.specs.Closures.{formula_at, closure_of};
 ghost use Rattle.tableau_rules.specs.Certificates.{is_until};
 ghost use Rattle.tableau_rules.specs.QuerySeen.{cores_in};
 ghost use Rattle.tableau_rules.specs.GraphSeen.{graph_of};
-ghost use Rattle.tableau_rules.specs.Links.{kids_of, fulfils_at, InRange};
-ghost use Rattle.tableau_rules.specs.Levels.{some_is, alive_at, Alive, HasLevels};
+ghost use Rattle.tableau_rules.specs.Links.{fulfils_at, InRange};
+ghost use Rattle.tableau_rules.specs.Levels.{Alive};
 ghost use Rattle.tableau_elimination.specs.Marks.{carrying_in, living, waits, IsReady, AreMarked, Leafless, AreKilled, AreCleared, IsWaitedFor};
 
 use crate::cause::Cause;
+use crate::place::is_some_alive;
 use crate::search::Search;
 use source_sink::Memory;
 use std::alloc::Global;
-use tableau_rules::{Kids, Link, does_carry, levels};
-
-// Whether some kid is alive.
-fn is_some_alive(kids: Kids, alive: &[bool]) -> bool
-    requires { AllByRecursion (λ p. p < length alive.now) (kids_of kids) }
-    ensures { result ≡ some_is (alive_at alive.now) (kids_of kids) }
-{
-    match kids {
-        Kids::Leaf => false,
-        Kids::One(a) => alive[a as usize],
-        Kids::Two(a, b) => alive[a as usize] || alive[b as usize],
-    }
-}
+use tableau_rules::{Link, does_carry, levels};
 
 /// Kills each place none of whose kids is alive, the last place first. Answers how many are left.
 pub(crate) fn clear(

@@ -7,10 +7,15 @@
 mod cause;
 mod certify;
 mod elimination;
+mod group;
 mod kill;
+mod marks;
 mod outcome;
+mod place;
+mod right;
 mod round;
 mod search;
+mod walk;
 
 pub use elimination::eliminate;
 pub use outcome::Outcome;

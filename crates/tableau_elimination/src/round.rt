@@ -57,19 +57,21 @@ fn round(
     Ok(rest)
 }
 
-/// Rounds until none kills. Answers whether the first place stays.
+/// Rounds until none kills, from marks of which so many are alive. Answers whether the first place
+/// stays.
 pub(crate) fn rounds(
     alloc: Global,
     search: &Search<'_>,
     alive: &mut [bool],
     ranks: &mut [u32],
     causes: &mut [Cause],
+    left: u32,
 ) -> Result<bool, Memory>
     requires ready { IsReady search.now }
-    requires marked { AreMarked search.now.links.now (carrying_in search.now) (fulfils_at search.now.links.now) alive.old ranks.old causes.old (length search.now.links.now) }
+    requires marked { AreMarked search.now.links.now (carrying_in search.now) (fulfils_at search.now.links.now) alive.old ranks.old causes.old left }
     ensures { IfOk result (λ stays. HasEnded stays search.now.links.now (carrying_in search.now) (fulfils_at search.now.links.now) alive.new ranks.new causes.new) }
 {
-    let mut left = search.links.len() as u32;
+    let mut left = left;
     'rounds: loop {
         let rest = round(alloc, search, alive, ranks, causes, left)?;
         if rest == left {

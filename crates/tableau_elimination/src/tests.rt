@@ -11,6 +11,9 @@ ghost use Rattle.tableau_rules.specs.GraphSeen.{graph_node_of, graph_of};
 ghost use Rattle.tableau_rules.specs.Graphs.{IsWhole};
 ghost use Rattle.tableau_elimination.specs.SmallGraphs.{sometime, never, entry, empty_graph, false_graph, met_graph, refuted_graph};
 
+use crate::cause::Cause;
+use crate::search::Search;
+use crate::walk::proposed;
 use crate::{Outcome, eliminate};
 use bound_unfolding::Core;
 use smallvec::SmallVec;
@@ -18,7 +21,7 @@ use source_sink::Memory;
 use state_space::{Values, VarId};
 use std::alloc::Global;
 use std::test::Fail;
-use tableau_rules::{Bits, Graph, GraphNode, Mark, Node, Query, Reason};
+use tableau_rules::{Bits, Graph, GraphNode, Kids, Link, Mark, Node, Query, Reason};
 
 // The sets of a variable of which nothing is known, and of one that is true or false.
 const ANY: Values = Values(3);
@@ -200,6 +203,69 @@ fn until_put_off(rt: HostRuntime) -> Result<(), Fail> {
             }
         }
         Outcome::RootStays(_) => assert!(rt; false, "the root stays"),
+    }
+    Ok(())
+}
+
+fn link(kids: Kids) -> Link {
+    Link {
+        kids,
+        fulfils: None,
+    }
+}
+
+#[test]
+fn groups_after_those_they_lead_to(rt: HostRuntime) -> Result<(), Fail> {
+    let alloc = rt.alloc();
+    let query = Query::new(alloc, Vec::new(alloc))?;
+    let graph = empty_graph(alloc)?;
+    let links = [
+        link(Kids::Two(1, 3)),
+        link(Kids::One(2)),
+        link(Kids::One(1)),
+        link(Kids::Two(4, 5)),
+        link(Kids::One(5)),
+        link(Kids::Leaf),
+    ];
+    let search = Search {
+        query: &query,
+        graph: &graph,
+        links: &links,
+    };
+    let marks = proposed(alloc, &search)?;
+    assert_eq!(rt;
+        marks.alive.as_slice(),
+        [true, true, true, false, false, false].as_slice()
+    );
+    assert_eq!(rt; marks.ranks.as_slice(), [0, 0, 0, 2, 1, 0].as_slice());
+    assert_eq!(rt; marks.left, 3);
+    Ok(())
+}
+
+#[test]
+fn group_that_puts_an_until_off(rt: HostRuntime) -> Result<(), Fail> {
+    let alloc = rt.alloc();
+    let (first, second) = (eventually_p(alloc)?, always_not_p(alloc)?);
+    let query = Query::new(alloc, vec![in alloc; first, second]?)?;
+    let graph = refuted_graph(alloc)?;
+    let links = [
+        link(Kids::One(1)),
+        link(Kids::One(2)),
+        link(Kids::One(3)),
+        link(Kids::One(4)),
+        link(Kids::One(0)),
+    ];
+    let search = Search {
+        query: &query,
+        graph: &graph,
+        links: &links,
+    };
+    let marks = proposed(alloc, &search)?;
+    assert_eq!(rt; marks.alive.as_slice(), [false; 5].as_slice());
+    assert_eq!(rt; marks.ranks.as_slice(), [0; 5].as_slice());
+    assert_eq!(rt; marks.causes.len(), 5);
+    'causes: for &cause in &marks.causes {
+        assert!(rt; matches!(cause, Cause::Wait(2)));
     }
     Ok(())
 }
