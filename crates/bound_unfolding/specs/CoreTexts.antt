@@ -1,4 +1,4 @@
--- The texts of cores.
+-- How cores are written, for readers of evidence: each core of two operands in parentheses, so that a text says which tree it is.
 use Rattle.std.specs.Prelude.{ℕ, ◌^◌, ◌<◌, ◌==◌, if◌then◌else◌, List, [], ◌++◌, length, slice_index_or, codes}
 use Rattle.state_space.specs.Ranges.{RangeForm, truth_values, named, span}
 use Rattle.state_space.specs.ValueTexts.{set_text}

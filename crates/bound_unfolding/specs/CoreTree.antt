@@ -22,6 +22,7 @@ opposite is_at_most = is_above
 opposite is_above = is_at_most
 opposite is_at_least = is_below
 
+-- the comparison for a positive core, its opposite for a negative one
 abbrev pub signed : Bool → Relation → Relation
 signed true r = r
 signed false r = opposite r
@@ -31,25 +32,27 @@ abbrev pub indexes : (ℕ → Bool) → ℕ → ℕ
 indexes p zero = 0
 indexes p (suc n) = indexes p n + (if p n then 2 ^ n else 0)
 
--- a conjunction or a disjunction; and a release or an until
+-- a conjunction or a disjunction, which change places where the sign does
 abbrev pub joined : Bool → CoreForm → CoreForm → CoreForm
 joined true a b = both a b
 joined false a b = either a b
 
+-- release or until, which change places where the sign does
 abbrev pub fixed : Bool → CoreForm → CoreForm → CoreForm
 fixed true a b = core_release a b
 fixed false a b = core_until a b
 
+-- the core that is true everywhere, or the one that is true nowhere
 abbrev pub constant : Bool → CoreForm
 constant true = core_true
 constant false = core_false
 
--- a comparison of two variables as a sum: for each index of the first, from one on, that index and the indexes of the second that it
--- stands to; terms with no such index are left out, and the others are joined to the right
+-- a term in front of a sum, whose end is no term; an index of x that stands to none of y has no term
 abbrev pub term_before : CoreForm → CoreForm → CoreForm
 term_before term core_false = term
 term_before term sum = either term sum
 
+-- a comparison of x and y: for each of n indexes of x from i on, that index and the indexes of y that it stands to, joined by `or` to the right
 abbrev pub sum_from : Relation → (x y size : ℕ) → ℕ → ℕ → CoreForm
 sum_from r x y size i zero = core_false
 sum_from r x y size i (suc n) =
@@ -57,12 +60,12 @@ sum_from r x y size i (suc n) =
     if set == 0 then sum_from r x y size (i + 1) n else
     term_before (both (lit x (2 ^ i)) (lit y set)) (sum_from r x y size (i + 1) n)
 
--- A now, and so on for d steps more, joined by "and" or by "or"
+-- a core now, and so on at each of d steps more, joined by "and" for true, by "or" for false
 abbrev pub steps : Bool → ℕ → CoreForm → CoreForm
 steps each zero a = a
 steps each (suc d) a = joined each a (after (steps each d a))
 
--- B now, joined with A and so on for d steps more
+-- b now, joined with a and so on for d steps more: "b or (a and next ..)" for false, "b and (a or next ..)" for true
 abbrev pub chain : Bool → ℕ → CoreForm → CoreForm → CoreForm
 chain each zero a b = b
 chain each (suc d) a b = joined each b (joined (not each) a (after (chain each d a b)))

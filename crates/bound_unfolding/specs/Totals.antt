@@ -1,4 +1,4 @@
--- Lists of cores.
+-- Which lists of formulas are small enough for a query, by the cores that they make.
 use Rattle.std.specs.Prelude.{ℕ, ◌+◌, ◌≤◌, Bool, true, List, [], ◌∷◌, map, All}
 use Rattle.temporal_logic.specs.Ltl.{Ltl}
 use Rattle.bound_unfolding.specs.CoreForm.{CoreForm, nodes, levels}

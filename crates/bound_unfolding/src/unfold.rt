@@ -1,6 +1,8 @@
-//! The cores of formulas, of both signs.
+//! The cores of formulas, of both signs, for those who decide a formula: one match arm an operator,
+//! in the order of `core_tree` in specs/CoreTree.antt, whose tree each core is. A sign is handed
+//! down and no negation is built, since the opposite of a core is again a core.
 
-ghost use Rattle.std.specs.Prelude.{◌≡◌, ℕ, ◌<◌, ◌≤◌, ◌↔◌, not, IfOk, length, slice_index, if◌then◌else◌};
+ghost use Rattle.std.specs.Prelude.{◌≡◌, ℕ, ◌<◌, ◌≤◌, ◌↔◌, not, true, false, IfOk, length, slice_index, if◌then◌else◌};
 ghost use Rattle.state_space.specs.Members.{others};
 ghost use Rattle.state_space.specs.Spaces.{ranges, sizes};
 ghost use Rattle.temporal_logic.specs.Trees.{tree_of, relation_of};
@@ -9,7 +11,7 @@ ghost use Rattle.temporal_logic.specs.Traces.{IsPeriodic};
 ghost use Rattle.temporal_logic.specs.Fits.{Fits};
 ghost use Rattle.bound_unfolding.specs.CoreForm.{lit, after, CoreTruth, nodes, levels};
 ghost use Rattle.bound_unfolding.specs.CoreTree.{stand, signed, indexes, constant, joined, fixed, term_before, sum_from, steps, chain, core_tree, Signed};
-ghost use Rattle.bound_unfolding.specs.CoreSeen.{core_tree_of};
+ghost use Rattle.bound_unfolding.specs.CoreView.{core_tree_of};
 ghost use Rattle.bound_unfolding.specs.CoreTexts.{CoreFits};
 
 use crate::comparison::{indexes_from, indexes_to, signed};
@@ -64,7 +66,7 @@ struct Unfolding<'space> {
 }
 
 impl<'space> Unfolding<'space> {
-    // Both, or one of them.
+    // Both operands for `each`, else at least one: the two change places where the sign does.
     fn joined(&self, each: bool, a: Core, b: Core) -> Result<Core, Memory>
         ensures { IfOk result (λ core. core_tree_of core ≡ joined each (core_tree_of a) (core_tree_of b)) }
     {
@@ -77,7 +79,7 @@ impl<'space> Unfolding<'space> {
         }
     }
 
-    // The first releases the second, or it is true until the second is.
+    // For `each` the first releases the second, else it is true until the second is.
     fn fixed(&self, each: bool, a: Core, b: Core) -> Result<Core, Memory>
         ensures { IfOk result (λ core. core_tree_of core ≡ fixed each (core_tree_of a) (core_tree_of b)) }
     {
@@ -161,7 +163,115 @@ impl<'space> Unfolding<'space> {
         Ok(sum)
     }
 
+    // A release of the false core, or an until from the true one: the operand always or at some time.
+    fn ever(&self, each: bool, a: Core) -> Result<Core, Memory>
+        ensures { IfOk result (λ core. core_tree_of core ≡ fixed each (constant (not each)) (core_tree_of a)) }
+    {
+        self.fixed(each, constant(!each), a)
+    }
+
+    // The cores of two operands of these signs, both or one of them.
+    #[cycle(cores)]
+    fn joined_of(
+        &self,
+        each: bool,
+        a: &Formula,
+        of_a: bool,
+        b: &Formula,
+        of_b: bool,
+    ) -> Result<Core, Memory>
+        requires first { Fits (ranges self.now.space.now) (tree_of a.now) }
+        requires second { Fits (ranges self.now.space.now) (tree_of b.now) }
+        ensures { IfOk result (λ core. core_tree_of core ≡ joined each (core_tree (sizes self.now.space.now) of_a (tree_of a.now)) (core_tree (sizes self.now.space.now) of_b (tree_of b.now))) }
+    {
+        let first = self.core(a, of_a)?;
+        self.joined(each, first, self.core(b, of_b)?)
+    }
+
+    // The core of the first operand releases that of the second, or is true until it is.
+    #[cycle(cores)]
+    fn fixed_of(&self, each: bool, a: &Formula, b: &Formula, positive: bool) -> Result<Core, Memory>
+        requires first { Fits (ranges self.now.space.now) (tree_of a.now) }
+        requires second { Fits (ranges self.now.space.now) (tree_of b.now) }
+        ensures { IfOk result (λ core. core_tree_of core ≡ fixed each (core_tree (sizes self.now.space.now) positive (tree_of a.now)) (core_tree (sizes self.now.space.now) positive (tree_of b.now))) }
+    {
+        let first = self.core(a, positive)?;
+        self.fixed(each, first, self.core(b, positive)?)
+    }
+
+    // Both operands, or neither; or exactly one of them.
+    #[cycle(cores)]
+    fn iff_of(&self, a: &Formula, b: &Formula, positive: bool) -> Result<Core, Memory>
+        requires first { Fits (ranges self.now.space.now) (tree_of a.now) }
+        requires second { Fits (ranges self.now.space.now) (tree_of b.now) }
+        ensures { IfOk result (λ core. core_tree_of core ≡ joined false (joined true (core_tree (sizes self.now.space.now) true (tree_of a.now)) (core_tree (sizes self.now.space.now) positive (tree_of b.now))) (joined true (core_tree (sizes self.now.space.now) false (tree_of a.now)) (core_tree (sizes self.now.space.now) (not positive) (tree_of b.now)))) }
+    {
+        let first = self.joined_of(true, a, true, b, positive)?;
+        self.joined(false, first, self.joined_of(true, a, false, b, !positive)?)
+    }
+
+    #[cycle(cores)]
+    fn unless_of(&self, a: &Formula, b: &Formula, positive: bool) -> Result<Core, Memory>
+        requires first { Fits (ranges self.now.space.now) (tree_of a.now) }
+        requires second { Fits (ranges self.now.space.now) (tree_of b.now) }
+        ensures { IfOk result (λ core. core_tree_of core ≡ fixed positive (core_tree (sizes self.now.space.now) positive (tree_of b.now)) (joined (not positive) (core_tree (sizes self.now.space.now) positive (tree_of a.now)) (core_tree (sizes self.now.space.now) positive (tree_of b.now)))) }
+    {
+        let last = self.core(b, positive)?;
+        let step = self.joined_of(!positive, a, positive, b, positive)?;
+        self.fixed(positive, last, step)
+    }
+
+    #[cycle(cores)]
+    fn steps_of(&self, each: bool, bound: u8, a: &Formula, positive: bool) -> Result<Core, Memory>
+        requires { Fits (ranges self.now.space.now) (tree_of a.now) }
+        ensures { IfOk result (λ core. core_tree_of core ≡ steps each bound (core_tree (sizes self.now.space.now) positive (tree_of a.now))) }
+    {
+        self.steps(each, bound, &self.core(a, positive)?)
+    }
+
+    #[cycle(cores)]
+    fn chain_of(
+        &self,
+        each: bool,
+        bound: u8,
+        a: &Formula,
+        b: &Formula,
+        positive: bool,
+    ) -> Result<Core, Memory>
+        requires first { Fits (ranges self.now.space.now) (tree_of a.now) }
+        requires second { Fits (ranges self.now.space.now) (tree_of b.now) }
+        ensures { IfOk result (λ core. core_tree_of core ≡ chain each bound (core_tree (sizes self.now.space.now) positive (tree_of a.now)) (core_tree (sizes self.now.space.now) positive (tree_of b.now))) }
+    {
+        self.chain(
+            each,
+            bound,
+            &self.core(a, positive)?,
+            &self.core(b, positive)?,
+        )
+    }
+
+    #[cycle(cores)]
+    fn weak_chain_of(
+        &self,
+        bound: u8,
+        a: &Formula,
+        b: &Formula,
+        positive: bool,
+    ) -> Result<Core, Memory>
+        requires first { Fits (ranges self.now.space.now) (tree_of a.now) }
+        requires second { Fits (ranges self.now.space.now) (tree_of b.now) }
+        ensures { IfOk result (λ core. core_tree_of core ≡ joined (not positive) (chain (not positive) bound (core_tree (sizes self.now.space.now) positive (tree_of a.now)) (core_tree (sizes self.now.space.now) positive (tree_of b.now))) (steps positive bound (core_tree (sizes self.now.space.now) positive (tree_of a.now)))) }
+    {
+        self.weak_chain(
+            positive,
+            bound,
+            &self.core(a, positive)?,
+            &self.core(b, positive)?,
+        )
+    }
+
     // The core of a sign.
+    #[cycle(cores)]
     fn core(&self, formula: &Formula, positive: bool) -> Result<Core, Memory>
         requires { Fits (ranges self.now.space.now) (tree_of formula.now) }
         ensures { IfOk result (λ core. core_tree_of core ≡ core_tree (sizes self.now.space.now) positive (tree_of formula.now)) }
@@ -174,75 +284,27 @@ impl<'space> Unfolding<'space> {
             Formula::Among(x, set) => Ok(among(self.space, *x, *set, positive)),
             Formula::Same(x, cmp, y) => self.sum(*x, signed(*cmp, positive), *y),
             Formula::Not(a) => self.core(a, !positive),
-            Formula::And(a, b) => {
-                self.joined(positive, self.core(a, positive)?, self.core(b, positive)?)
-            }
-            Formula::Or(a, b) => {
-                self.joined(!positive, self.core(a, positive)?, self.core(b, positive)?)
-            }
-            Formula::Implies(a, b) => {
-                self.joined(!positive, self.core(a, !positive)?, self.core(b, positive)?)
-            }
-            Formula::Iff(a, b) => {
-                let first = self.joined(true, self.core(a, true)?, self.core(b, positive)?)?;
-                let second = self.joined(true, self.core(a, false)?, self.core(b, !positive)?)?;
-                self.joined(false, first, second)
-            }
+            Formula::And(a, b) => self.joined_of(positive, a, positive, b, positive),
+            Formula::Or(a, b) => self.joined_of(!positive, a, positive, b, positive),
+            Formula::Implies(a, b) => self.joined_of(!positive, a, !positive, b, positive),
+            Formula::Iff(a, b) => self.iff_of(a, b, positive),
             Formula::Entails(a, b) => {
-                let step = self.joined(
-                    !positive,
-                    self.core(a, !positive)?,
-                    self.core(b, positive)?,
-                )?;
-                self.fixed(positive, constant(!positive), step)
+                self.ever(
+                    positive,
+                    self.joined_of(!positive, a, !positive, b, positive)?,
+                )
             }
             Formula::Next(a) => self.after(self.core(a, positive)?),
-            Formula::Eventually(a) => {
-                self.fixed(!positive, constant(positive), self.core(a, positive)?)
-            }
-            Formula::Always(a) => {
-                self.fixed(positive, constant(!positive), self.core(a, positive)?)
-            }
-            Formula::Until(a, b) => {
-                self.fixed(!positive, self.core(a, positive)?, self.core(b, positive)?)
-            }
-            Formula::Unless(a, b) => {
-                let step = self.joined(
-                    !positive,
-                    self.core(a, positive)?,
-                    self.core(b, positive)?,
-                )?;
-                self.fixed(positive, self.core(b, positive)?, step)
-            }
-            Formula::Release(a, b) => {
-                self.fixed(positive, self.core(a, positive)?, self.core(b, positive)?)
-            }
-            Formula::EventuallyWithin(d, a) => self.steps(!positive, *d, &self.core(a, positive)?),
-            Formula::AlwaysWithin(d, a) => self.steps(positive, *d, &self.core(a, positive)?),
-            Formula::UntilWithin(d, a, b) => {
-                self.chain(
-                    !positive,
-                    *d,
-                    &self.core(a, positive)?,
-                    &self.core(b, positive)?,
-                )
-            }
-            Formula::UnlessWithin(d, a, b) => {
-                self.weak_chain(
-                    positive,
-                    *d,
-                    &self.core(a, positive)?,
-                    &self.core(b, positive)?,
-                )
-            }
-            Formula::ReleaseWithin(d, a, b) => {
-                self.chain(
-                    positive,
-                    *d,
-                    &self.core(a, positive)?,
-                    &self.core(b, positive)?,
-                )
-            }
+            Formula::Eventually(a) => self.ever(!positive, self.core(a, positive)?),
+            Formula::Always(a) => self.ever(positive, self.core(a, positive)?),
+            Formula::Until(a, b) => self.fixed_of(!positive, a, b, positive),
+            Formula::Unless(a, b) => self.unless_of(a, b, positive),
+            Formula::Release(a, b) => self.fixed_of(positive, a, b, positive),
+            Formula::EventuallyWithin(d, a) => self.steps_of(!positive, *d, a, positive),
+            Formula::AlwaysWithin(d, a) => self.steps_of(positive, *d, a, positive),
+            Formula::UntilWithin(d, a, b) => self.chain_of(!positive, *d, a, b, positive),
+            Formula::UnlessWithin(d, a, b) => self.weak_chain_of(*d, a, b, positive),
+            Formula::ReleaseWithin(d, a, b) => self.chain_of(positive, *d, a, b, positive),
         }
     }
 }

@@ -9,7 +9,8 @@ use Rattle.formula_table.specs.Closures.{formula_at}
 use Rattle.tableau_rules.specs.Rules.{fulfils}
 use Rattle.tableau_rules.specs.Nodes.{NodeForm, chosen, node_rule, kids}
 use Rattle.tableau_rules.specs.Certificates.{ReasonForm, clash, dead, wait, CertNodeForm, HoldsKids, EachKid, FirstKid, IsEliminated, is_until}
-use Rattle.tableau_rules.proofs.Lists.{cond_case, and_true, or_true, eq_of, eq_self, each_map}
+use Rattle.formula_table.proofs.Tests.{cond_case, and_true, or_true, eq_of, eq_self}
+use Rattle.tableau_rules.proofs.Lists.{each_map}
 use Rattle.cert_checker.specs.declared.why.Why.{Why}
 use Rattle.cert_checker.specs.declared.why.Why.TheVariants.{NotRoot, WrongKid, NotLower, KidLeaves}
 use Rattle.cert_checker.specs.Causes.{or_else, unless, are_same, is_same_node, first_bad, is_node, first_wrong, is_lower, is_wait, stays, is_first_lower, reason_cause, has_shape, cause, picked, first_cause, first_fault}

@@ -2,7 +2,7 @@
 use Rattle.std.proofs.Common.{◌≡◌, ℕ, zero, suc, ◌+◌, ◌-◌, ◌^◌, ◌<◌, ◌⊎◌, inl, inr, Bool, true, false, not, List, [], ◌∷◌, IsTrue, Option, Some, None, Result, Ok, Err, IfErr, OnOk, IsOk, ◌↔◌, ◌≢◌, ◌≤◌, nat_lt, ◌==◌, ◌&&◌, ◌||◌, length, map, bit_and, refl, sym, ap, ap₂, ◌∙◌, subst, lt-ltb, true≢false, arith}
 use Rattle.std.specs.Prelude.{slice_get, slice_index}
 use Rattle.std.specs.List.{AllByRecursion as Each}
-use Rattle.std.proofs.lemmas.Option.{slice_get_within}
+use Rattle.std.proofs.lemmas.Option.{slice_get_within, none-some}
 use Rattle.std.proofs.lemmas.List.Elements.{recursion_from_All}
 use Rattle.std.proofs.Math.Nat.{mod-eq_of_lt}
 use Rattle.std.proofs.lemmas.Nat.{and_mask}
@@ -12,7 +12,7 @@ use Rattle.formula_table.specs.Closures.{formula_at, closure_of}
 use Rattle.tableau_rules.specs.Rules.{fulfils}
 use Rattle.tableau_rules.specs.Nodes.{NodeForm, chosen, node_rule, kids, root_of}
 use Rattle.tableau_rules.specs.Certificates.{ReasonForm, clash, dead, wait, CertNodeForm, HoldsKids, EachKid, FirstKid, IsEliminated, IsOfQuery, IsValid, is_until}
-use Rattle.tableau_rules.proofs.Lists.{eq_to, eq_self, and_intro, or_left}
+use Rattle.formula_table.proofs.Tests.{eq_to, eq_self, and_intro, or_left}
 use Rattle.temporal_logic.specs.Truth.{Trace}
 use Rattle.temporal_logic.specs.Traces.{TraceFits}
 use Rattle.tableau_rules.specs.Queries.{MeetsAll}
@@ -179,9 +179,6 @@ none_of_valid sizes cores (c ∷ cs) v =
     (λ j d e. let n : j + 0 ≡ j = omega arith in ap (λ i. cause (closure_of cores) (full_of sizes) (root_of (closure_of cores) (full_of sizes) cores) (c ∷ cs) i d) n ∙ cause_none sizes cores (c ∷ cs) j d v e)
 
 -- ---- what a check of all nodes says of the whole
-none_some : {X : Type 0} (x : X) → None ≡ Some x → ⊥
-none_some x e = cc
-
 module _ (sizes : List ℕ) (cores : List CoreForm) where
   pub err_of : (cert seen : List CertNodeForm) (n : ℕ) (r : Result (Unit {0}) BadMark) → seen ≡ cert → n ≡ length cert → cert ≢ []
       → IfErr r (λ bad. fault_in (full_of sizes) cores seen 0 n ≡ Some (bad.node, bad.why)) → IfErr r (λ bad. fault_of (full_of sizes) cores cert ≡ Some (bad.node, bad.why))
@@ -202,14 +199,14 @@ module _ (sizes : List ℕ) (cores : List CoreForm) where
       → OnOk r ((j : ℕ) (c : CertNodeForm) → 0 ≤ j → j < n → slice_get seen j ≡ Some c → IsAscending c.node) → IsOk r ↔ IsValid sizes cores cert
   exact_of cert seen n (Ok x) e l some h b a = ((λ _. valid_by cert seen n e l some h a), (λ _. refl))
   exact_of cert seen n (Err bad) e l some h b a =
-      ((λ q. absurd (true≢false (sym q))), (λ v. absurd (none_some (bad.node, bad.why) (sym (none_of_valid sizes cores cert v) ∙ err_of cert seen n (Err bad) e l some b))))
+      ((λ q. absurd (true≢false (sym q))), (λ v. absurd (none-some (bad.node, bad.why) (sym (none_of_valid sizes cores cert v) ∙ err_of cert seen n (Err bad) e l some b))))
 
   pub refuted_of : (cert : List CertNodeForm) (r : Result (Unit {0}) BadMark) → IsOk r ↔ IsValid sizes cores cert → OnOk r ((t : Trace) → TraceFits sizes t → ¬ (MeetsAll t cores))
   refuted_of cert (Ok x) h = certificate_law sizes cores cert (h.0 refl)
   refuted_of cert (Err bad) h = tt
 
   pub no_valid : (cert : List CertNodeForm) → cert ≡ [] → IsValid sizes cores cert → ⊥
-  no_valid [] e v = none_some v.root.0 v.root.1
+  no_valid [] e v = none-some v.root.0 v.root.1
   no_valid (c ∷ cs) e v = absurd (cc)
 
 pub no_root : (full : List ℕ) (cores : List CoreForm) (cert : List CertNodeForm) → cert ≡ [] → fault_of full cores cert ≡ Some (0, NoRoot)

@@ -8,8 +8,9 @@ use Rattle.formula_table.specs.Closures.{formula_at}
 use Rattle.tableau_rules.specs.Sets.{least_from}
 use Rattle.tableau_rules.specs.Turns.{sets_of}
 use Rattle.tableau_rules.specs.Certificates.{is_until}
-use Rattle.tableau_rules.proofs.Lists.{cond_case, and_true, eq_to}
+use Rattle.formula_table.proofs.Tests.{cond_case, and_true, eq_to}
 use Rattle.cert_checker.specs.Causes.{all_below, are_inside}
+use Rattle.std.proofs.lemmas.Bool.{ne_eqb}
 
 -- ---- numbers
 pub none_below : (n : ℕ) (xs : List ℕ) → least_from n xs ≡ None → true ≡ all_below n xs
@@ -43,9 +44,6 @@ until_past (c ∷ closure) (suc n) l = until_past closure n (omega arith)
 and_no : (a b : Bool) → a ≡ false → false ≡ (a && b)
 and_no a b e = ap (λ v. v && b) (sym e)
 
-eq_no : (x y : ℕ) → x ≢ y → (x == y) ≡ false
-eq_no x y h = grind arith
-
 pub inside_lengths : (full sets : List Values) → length full ≢ length sets → false ≡ are_inside (sets_of full) (sets_of sets)
 inside_lengths [] [] h = absurd (h refl)
 inside_lengths [] (s ∷ sets) h = refl
@@ -76,7 +74,7 @@ pub inside_no : (full sets : List Values) (k : ℕ) (d : Values) → k < length 
     → false ≡ are_inside (sets_of (drop k full)) (sets_of (drop k sets))
 inside_no [] sets k d l m h = absurd (omega arith)
 inside_no (f ∷ full) [] k d l m h = absurd (omega arith)
-inside_no (f ∷ full) (s ∷ sets) zero d l m h = and_no (bit_and s.0 f.0 == s.0) (are_inside (sets_of full) (sets_of sets)) (eq_no (bit_and s.0 f.0) s.0 h)
+inside_no (f ∷ full) (s ∷ sets) zero d l m h = and_no (bit_and s.0 f.0 == s.0) (are_inside (sets_of full) (sets_of sets)) (ne_eqb (bit_and s.0 f.0) s.0 h)
 inside_no (f ∷ full) (s ∷ sets) (suc k) d l m h = inside_no full sets k d (omega arith) (omega arith) h
 
 pub inside_end : (full sets : List Values) (k : ℕ) → length full ≤ k → length full ≡ length sets → are_inside (sets_of (drop k full)) (sets_of (drop k sets)) ≡ true

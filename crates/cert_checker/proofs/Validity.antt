@@ -10,11 +10,12 @@ use Rattle.formula_table.specs.Closures.{closure_of}
 use Rattle.state_space.specs.Members.{full_of}
 use Rattle.tableau_rules.specs.Nodes.{NodeForm, root_of}
 use Rattle.tableau_rules.specs.Certificates.{CertNodeForm, IsOfQuery, IsValid}
-use Rattle.tableau_rules.proofs.Lists.{and_true, eq_of}
+use Rattle.formula_table.proofs.Tests.{and_true, eq_of}
 use Rattle.cert_checker.specs.Causes.{all_below, are_inside, has_shape}
 use Rattle.cert_checker.specs.Entries.{IsAscending, fault_of}
 use Rattle.cert_checker.proofs.Causes.{all_good}
 use Rattle.cert_checker.proofs.Shapes.{each_below, inside_length}
+use Rattle.tableau_rules.proofs.IndexSets.{length-full_of}
 
 -- ---- the shape of a node
 pub shaped_todo : (n : ℕ) (full : List ℕ) (node : NodeForm) → IsTrue (has_shape n full node) → All (λ x. x < n) node.todo
@@ -27,10 +28,6 @@ shaped_next n full node h =
 
 shaped_sets : (n : ℕ) (full : List ℕ) (node : NodeForm) → IsTrue (has_shape n full node) → IsTrue (are_inside full node.now)
 shaped_sets n full node h = (and_true (all_below n node.todo && all_below n node.next) _ h).1
-
-full_length : (sizes : List ℕ) → length (full_of sizes) ≡ length sizes
-full_length [] = refl
-full_length (size ∷ sizes) = ap suc (full_length sizes)
 
 one_set : (size set : ℕ) → IsTrue (bit_and set (2 ^ size - 1) == set) → set < 2 ^ size
 one_set size set h =
@@ -54,7 +51,7 @@ of_query sizes closure node h a =
       todo_below = shaped_todo (length closure) (full_of sizes) node h;
       next = a.next;
       next_below = shaped_next (length closure) (full_of sizes) node h;
-      variables = inside_length (full_of sizes) node.now sets ∙ full_length sizes;
+      variables = inside_length (full_of sizes) node.now sets ∙ length-full_of sizes;
       indexes = sets_below sizes node.now sets;
     }
 

@@ -1,4 +1,4 @@
--- Nodes of a certificate by their parts.
+-- Nodes of a certificate of the code, and the first fault among all of them or among a range.
 use Rattle.std.specs.Prelude.{ℕ, ◌-◌, List, Option, map, take, drop}
 use Rattle.std.specs.List.Sorted.{IsStrictlyIncreasing}
 use Rattle.bound_unfolding.specs.CoreForm.{CoreForm}
@@ -7,8 +7,8 @@ use Rattle.tableau_rules.specs.declared.node.Node.{Node}
 use Rattle.tableau_rules.specs.declared.certificate.Mark.{Mark}
 use Rattle.tableau_rules.specs.declared.certificate.CertNode.{CertNode}
 use Rattle.tableau_rules.specs.Nodes.{NodeForm, root_of}
-use Rattle.tableau_rules.specs.NodeSeen.{node_of}
-use Rattle.tableau_rules.specs.CertSeen.{reason_of, cert_node_of}
+use Rattle.tableau_rules.specs.NodeView.{node_of}
+use Rattle.tableau_rules.specs.CertView.{reason_of, cert_node_of}
 use Rattle.tableau_rules.specs.Certificates.{CertNodeForm}
 use Rattle.cert_checker.specs.declared.why.Why.{Why}
 use Rattle.cert_checker.specs.Causes.{first_cause, first_fault}
@@ -17,6 +17,7 @@ use Rattle.cert_checker.specs.Causes.{first_cause, first_fault}
 abbrev pub entry_by : Node → List ℕ → Mark → CertNodeForm
 entry_by node kids mark = record { node = node_of node; kids = kids; rank = mark.rank; reason = reason_of mark.reason }
 
+-- the nodes of a certificate of the code, in order
 abbrev pub entries_of : List CertNode → List CertNodeForm
 entries_of cert = map cert_node_of cert
 

@@ -1,4 +1,6 @@
-//! The check of a certificate, node by node.
+//! The check of a certificate, node by node, in one order: shape, number of kids, their places, the
+//! kids there, the reason. A later test relies on those before it, so that none reads past an end.
+//! Any part of the nodes can be checked apart, since no node's test needs that of another.
 
 ghost use Rattle.std.specs.Prelude.{◌≡◌, ℕ, ◌^◌, ◌≤◌, ◌<◌, List, ◌↔◌, None, Some, IsOk, OnOk, IfErr, IsNone, length, slice_get};
 ghost use Rattle.temporal_logic.specs.Truth.{Trace};
@@ -7,10 +9,10 @@ ghost use Rattle.state_space.specs.Members.{full_of};
 ghost use Rattle.state_space.specs.Spaces.{sizes};
 ghost use Rattle.formula_table.specs.Closures.{closure_of};
 ghost use Rattle.tableau_rules.specs.Nodes.{kids, root_of};
-ghost use Rattle.tableau_rules.specs.NodeSeen.{node_of, AreNumbersBelow};
-ghost use Rattle.tableau_rules.specs.QuerySeen.{cores_in};
+ghost use Rattle.tableau_rules.specs.NodeView.{node_of, AreNumbersBelow};
+ghost use Rattle.tableau_rules.specs.QueryView.{cores_in};
 ghost use Rattle.tableau_rules.specs.Queries.{MeetsAll};
-ghost use Rattle.tableau_rules.specs.CertSeen.{cert_node_of, cert_of};
+ghost use Rattle.tableau_rules.specs.CertView.{cert_node_of, cert_of};
 ghost use Rattle.tableau_rules.specs.Certificates.{CertNodeForm, IsValid};
 ghost use Rattle.cert_checker.specs.Causes.{cause, shape_cause, count_cause, places_cause};
 ghost use Rattle.cert_checker.specs.Entries.{entry_by, entries_of, IsAscending, fault_of, fault_in};

@@ -1,12 +1,14 @@
-//! The places of a node's kids, and what a certificate has there.
+//! The places of a node's kids, and what a certificate has there: each is to be the kid that the
+//! rule makes. A kid is told from the node that is there, and never made, so that no memory is
+//! taken.
 
 ghost use Rattle.std.specs.Prelude.{◌≡◌, ℕ, ◌≤◌, ◌<◌, nat_lt, length, slice_index};
 ghost use Rattle.state_space.specs.Members.{full_of};
 ghost use Rattle.state_space.specs.Spaces.{sizes};
 ghost use Rattle.formula_table.specs.Closures.{closure_of};
 ghost use Rattle.tableau_rules.specs.Nodes.{kids};
-ghost use Rattle.tableau_rules.specs.NodeSeen.{node_of, AreNumbersBelow};
-ghost use Rattle.tableau_rules.specs.QuerySeen.{cores_in};
+ghost use Rattle.tableau_rules.specs.NodeView.{node_of, AreNumbersBelow};
+ghost use Rattle.tableau_rules.specs.QueryView.{cores_in};
 ghost use Rattle.cert_checker.specs.declared.why.Why.TheVariants.{KidPlace};
 ghost use Rattle.cert_checker.specs.Causes.{first_bad, first_wrong};
 ghost use Rattle.cert_checker.specs.Entries.{entries_of};

@@ -10,6 +10,3 @@ mod why;
 
 pub use checking::{check, check_range};
 pub use why::{BadMark, Why};
-
-#[cfg(test)]
-mod tests;

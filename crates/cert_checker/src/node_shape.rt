@@ -1,4 +1,5 @@
-//! The shape of a node, and whether it is the root.
+//! The shape of a node, before anything is asked of it: its numbers are those of formulas of the
+//! query, and it has one set for each variable. And whether it is the root.
 
 ghost use Rattle.std.specs.Prelude.{◌≡◌, IsTrue, length};
 ghost use Rattle.std.specs.List.Sorted.{IsStrictlyIncreasing};
@@ -6,8 +7,8 @@ ghost use Rattle.state_space.specs.Members.{full_of};
 ghost use Rattle.state_space.specs.Spaces.{sizes};
 ghost use Rattle.formula_table.specs.Closures.{closure_of};
 ghost use Rattle.tableau_rules.specs.Nodes.{root_of};
-ghost use Rattle.tableau_rules.specs.QuerySeen.{cores_in};
-ghost use Rattle.tableau_rules.specs.NodeSeen.{node_of};
+ghost use Rattle.tableau_rules.specs.QueryView.{cores_in};
+ghost use Rattle.tableau_rules.specs.NodeView.{node_of};
 ghost use Rattle.tableau_rules.specs.Turns.{sets_of};
 ghost use Rattle.cert_checker.specs.Causes.{all_below, are_inside, has_shape, root_cause};
 ghost use Rattle.cert_checker.specs.Entries.{IsAscending};

@@ -1,13 +1,15 @@
-//! Whether the reason holds for which a node is eliminated.
+//! Whether the reason holds for which a node is eliminated, from its own rule and the marks of its
+//! kids alone: each kid was eliminated before the node, or waits with it for the same until. The
+//! one in which that until is fulfilled may not wait with it.
 
 ghost use Rattle.std.specs.Prelude.{◌≡◌, ℕ, ◌==◌, ◌&&◌, ◌≤◌, ◌<◌, length, slice_get};
 ghost use Rattle.formula_table.specs.Closures.{formula_at, closure_of};
 ghost use Rattle.tableau_rules.specs.Certificates.{is_until};
 ghost use Rattle.tableau_rules.specs.Rules.{Rule, is_clash, fulfils};
-ghost use Rattle.tableau_rules.specs.NodeSeen.{AreNumbersBelow};
-ghost use Rattle.tableau_rules.specs.QuerySeen.{cores_in};
+ghost use Rattle.tableau_rules.specs.NodeView.{AreNumbersBelow};
+ghost use Rattle.tableau_rules.specs.QueryView.{cores_in};
 ghost use Rattle.tableau_rules.specs.Kinds.{kind_of};
-ghost use Rattle.tableau_rules.specs.CertSeen.{reason_of};
+ghost use Rattle.tableau_rules.specs.CertView.{reason_of};
 ghost use Rattle.cert_checker.specs.declared.why.Why.TheVariants.{NotLower, KidLeaves};
 ghost use Rattle.cert_checker.specs.Causes.{first_bad, is_wait, is_lower, stays, is_first_lower, reason_cause};
 ghost use Rattle.cert_checker.specs.Entries.{entry_by, entries_of};
@@ -73,7 +75,9 @@ fn leaving(cert: &[CertNode], rank: u32, e: u16, kids: &[u32]) -> Option<Why>
     None
 }
 
-// Whether the first kid is eliminated before the rank.
+// Whether the first kid is eliminated before the rank. That is asked of a kid that fulfils an
+// until: it may ask for it again later, and if it might wait too, `always next eventually p` would
+// be eliminated.
 fn is_first_lower(cert: &[CertNode], rank: u32, kids: &[u32]) -> bool
     ensures { result ≡ is_first_lower (entries_of cert.now) rank kids.now }
 {

@@ -1,4 +1,5 @@
-//! Why a certificate is not valid.
+//! Why a certificate is not valid, for whoever has to find the fault: the first bad node, and the
+//! first cause in the order of these variants. Kids are counted from 0, and nodes too.
 
 /// Why a node is bad. A number is that of a kid.
 #[derive(Clone, Copy, Debug, PartialEq, Eq)]

@@ -11,27 +11,24 @@ use Rattle.elimination_cert.specs.Guesses.{before, behind, pieces}
 abbrev pub Lacks : ℕ → List ℕ → Type 0
 Lacks byte bytes = Each (λ b. b ≢ byte) bytes
 
-eq_false : (a b : ℕ) → a ≢ b → (a == b) ≡ false
-eq_false a b n = ne_eqb a b n
-
 eq_same : (a : ℕ) → (a == a) ≡ true
 eq_same a = eq-eqb a a refl
 
 pub before_first : (byte : ℕ) (xs ys : List ℕ) → Lacks byte xs → before byte (xs ++ byte ∷ ys) ≡ xs
 before_first byte [] ys h = cond-true (byte == byte) _ _ (eq_same byte)
-before_first byte (x ∷ xs) ys h = cond-false (x == byte) _ _ (eq_false x byte h.0) ∙ ap (λ zs. x ∷ zs) (before_first byte xs ys h.1)
+before_first byte (x ∷ xs) ys h = cond-false (x == byte) _ _ (ne_eqb x byte h.0) ∙ ap (λ zs. x ∷ zs) (before_first byte xs ys h.1)
 
 pub behind_first : (byte : ℕ) (xs ys : List ℕ) → Lacks byte xs → behind byte (xs ++ byte ∷ ys) ≡ ys
 behind_first byte [] ys h = cond-true (byte == byte) _ _ (eq_same byte)
-behind_first byte (x ∷ xs) ys h = cond-false (x == byte) _ _ (eq_false x byte h.0) ∙ behind_first byte xs ys h.1
+behind_first byte (x ∷ xs) ys h = cond-false (x == byte) _ _ (ne_eqb x byte h.0) ∙ behind_first byte xs ys h.1
 
 pub before_none : (byte : ℕ) (xs : List ℕ) → Lacks byte xs → before byte xs ≡ xs
 before_none byte [] h = refl
-before_none byte (x ∷ xs) h = cond-false (x == byte) _ _ (eq_false x byte h.0) ∙ ap (λ zs. x ∷ zs) (before_none byte xs h.1)
+before_none byte (x ∷ xs) h = cond-false (x == byte) _ _ (ne_eqb x byte h.0) ∙ ap (λ zs. x ∷ zs) (before_none byte xs h.1)
 
 pub behind_none : (byte : ℕ) (xs : List ℕ) → Lacks byte xs → behind byte xs ≡ []
 behind_none byte [] h = refl
-behind_none byte (x ∷ xs) h = cond-false (x == byte) _ _ (eq_false x byte h.0) ∙ behind_none byte xs h.1
+behind_none byte (x ∷ xs) h = cond-false (x == byte) _ _ (ne_eqb x byte h.0) ∙ behind_none byte xs h.1
 
 -- the first piece, and the others
 pub first_piece : (byte : ℕ) (xs : List ℕ) → 0 < length xs → pieces byte xs ≡ before byte xs ∷ pieces byte (behind byte xs)

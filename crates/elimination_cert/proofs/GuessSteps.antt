@@ -7,25 +7,8 @@ use Rattle.std.proofs.lemmas.List.{map-set}
 use Rattle.state_space.specs.declared.values.Values.{Values}
 use Rattle.tableau_rules.specs.Sets.{with_number}
 use Rattle.tableau_rules.specs.Turns.{sets_of}
-use Rattle.elimination_cert.specs.Guesses.{before, behind, pieces, value_behind, number_in, small_in, with_all, with_value, with_values, with_entry, with_entries, set_in}
+use Rattle.elimination_cert.specs.Guesses.{before, behind, pieces, number_in, small_in, with_all, with_value, with_values, with_entry, with_entries, set_in}
 use Rattle.elimination_cert.proofs.Cuts.{first_piece}
-
--- ---- digits
-grows : (a : ℕ) (digits : List ℕ) → a ≤ value_behind a digits
-grows a [] = omega arith
-grows a (d ∷ digits) = omega (arith, grows (10 * a + (d - 48)) digits)
-
-saturates : (a : ℕ) (digits : List ℕ) → min (value_behind (min a 4294967295) digits) 4294967295 ≡ min (value_behind a digits) 4294967295
-saturates a digits = ⊎_elim over within (cases_lt 4294967295 a)
-  where
-    over : 4294967295 < a → min (value_behind (min a 4294967295) digits) 4294967295 ≡ min (value_behind a digits) 4294967295
-    over h = omega (arith, grows (min a 4294967295) digits, grows a digits)
-
-    within : a ≤ 4294967295 → min (value_behind (min a 4294967295) digits) 4294967295 ≡ min (value_behind a digits) 4294967295
-    within h = let is : min a 4294967295 ≡ a = omega arith in ap (λ (k : ℕ). min (value_behind k digits) 4294967295) is
-
-pub one_digit : (value at : ℕ) (digits : List ℕ) → at < length digits → min (value_behind (min (10 * value + (get_or digits at 0 - 48)) 4294967295) (drop (at + 1) digits)) 4294967295 ≡ min (value_behind value (drop at digits)) 4294967295
-one_digit value at digits inside = rw (add-one, drop-cons digits at 0) (saturates (10 * value + (get_or digits at 0 - 48)) (drop (suc at) digits))
 
 -- ---- pieces
 pub is_nil : {X : Type 0} (xs : List X) → length xs ≡ 0 → xs ≡ []

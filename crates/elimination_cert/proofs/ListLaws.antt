@@ -12,7 +12,9 @@ use Rattle.tableau_rules.proofs.NumberSets.{each_with}
 use Rattle.elimination_cert.specs.CertTexts.{or_dash, list_text}
 use Rattle.elimination_cert.specs.Guesses.{pieces, number_in, small_in, listed_in, with_all, formulas_in, kids_in}
 use Rattle.elimination_cert.proofs.Cuts.{Lacks, ArePieces, pieces_joined}
-use Rattle.elimination_cert.proofs.Numerals.{each_joined, each_to, each_mapped, lacks_decimal, below_digits, pieces_decimal, number_again, small_again, number_fits, small_fits}
+use Rattle.elimination_cert.proofs.Numerals.{each_joined, each_mapped, lacks_decimal, below_digits, pieces_decimal, number_again, small_again, number_fits, small_fits}
+use Rattle.tableau_rules.proofs.Lists.{each_map}
+use Rattle.tableau_rules.proofs.QueryNodes.{ascending_of}
 
 pub each_of_all : {X : Type 0} (P : X → Type 0) (xs : List X) → All P xs → Each P xs
 each_of_all P [] h = tt
@@ -65,23 +67,12 @@ below_none : (ys : List ℕ) → AreBelow [] ys
 below_none [] = tt
 below_none (y ∷ ys) = (tt, below_none ys)
 
-ascending : (xs : List ℕ) → IsStrictlyIncreasing xs → IsAscending xs
-ascending [] h = tt
-ascending (x ∷ []) h = (tt, tt)
-ascending (x ∷ y ∷ ys) h =
-    let rest : IsAscending (y ∷ ys) = ascending (y ∷ ys) (λ k l. tail k l) in
-    let less : x < y = h 0 (omega arith) in
-    ((less, each_to (λ z. y < z) (λ z. x < z) ys (λ z g. omega arith) rest.0), rest)
-  where
-    tail : (k : ℕ) → k + 1 < length (y ∷ ys) → slice_index (y ∷ ys) k < slice_index (y ∷ ys) (k + 1)
-    tail k l = let e : suc k + 1 ≡ suc (k + 1) = omega arith in subst (λ n. slice_index (y ∷ ys) k < slice_index (x ∷ y ∷ ys) n) e (h (suc k) (omega arith))
-
 pub formulas_again : (formulas : List ℕ) → IsStrictlyIncreasing formulas → All (λ f. f < 2 ^ 16) formulas → formulas_in (list_text formulas) ≡ formulas
 unfolding formulas_in
 formulas_again formulas i s =
     let small = each_of_all (λ f. f < 2 ^ 16) formulas s in
-    ap (λ texts. with_all texts []) (numbers_listed formulas (each_to (λ f. f < 2 ^ 16) (λ f. f < 2 ^ 64) formulas (λ f l. omega arith) small))
-    ∙ all_again [] formulas (below_none formulas) (ascending formulas i) small
+    ap (λ texts. with_all texts []) (numbers_listed formulas (each_map (λ f. f < 2 ^ 16) (λ f. f < 2 ^ 64) formulas (λ f l. omega arith) small))
+    ∙ all_again [] formulas (below_none formulas) (ascending_of formulas i) small
 
 with_all_fits : (texts : List (List ℕ)) (formulas : List ℕ) → IsAscending formulas → Each (λ f. f < 2 ^ 16) formulas → IsAscending (with_all texts formulas) × Each (λ f. f < 2 ^ 16) (with_all texts formulas)
 with_all_fits [] formulas a s = (a, s)
@@ -108,7 +99,7 @@ pub kids_again : (kids : List ℕ) → length kids ≤ 2 → All (λ k. k < 2 ^ 
 unfolding kids_in
 kids_again kids few s =
     let small = each_of_all (λ k. k < 2 ^ 32) kids s in
-    ap (λ texts. take 2 (map number_in texts)) (numbers_listed kids (each_to (λ k. k < 2 ^ 32) (λ k. k < 2 ^ 64) kids (λ k l. omega arith) small))
+    ap (λ texts. take 2 (map number_in texts)) (numbers_listed kids (each_map (λ k. k < 2 ^ 32) (λ k. k < 2 ^ 64) kids (λ k l. omega arith) small))
     ∙ ap (take 2) (numbers_again kids small) ∙ take_two kids few
 
 numbers_fit : (texts : List (List ℕ)) → Each (λ n. n < 2 ^ 32) (take 2 (map number_in texts)) × (length (take 2 (map number_in texts)) ≤ 2)

@@ -8,9 +8,10 @@ use Rattle.tableau_rules.specs.Certificates.{ReasonForm, clash, dead, wait, Cert
 use Rattle.elimination_cert.specs.CertTexts.{or_dash, list_text, set_texts, now_text, reason_text, node_text, IsSmall, FitsSizes}
 use Rattle.elimination_cert.specs.Guesses.{before, behind, number_in, small_in, formulas_in, kids_in, now_in, reason_in, behind_reason, field, behind_field, node_behind, node_in}
 use Rattle.elimination_cert.proofs.Cuts.{Lacks, before_first, behind_first}
-use Rattle.elimination_cert.proofs.Numerals.{each_joined, each_to, each_mapped, lacks_decimal, below_digits, number_again, small_again, number_fits, small_fits}
+use Rattle.elimination_cert.proofs.Numerals.{each_joined, each_mapped, lacks_decimal, below_digits, number_again, small_again, number_fits, small_fits}
 use Rattle.elimination_cert.proofs.ListLaws.{each_of_all, formulas_again, formulas_fit, kids_again, kids_fit}
 use Rattle.elimination_cert.proofs.SetLaws.{lacks_joined, lacks_sets, now_again, now_fits}
+use Rattle.tableau_rules.proofs.Lists.{each_map}
 
 -- at most 64 variables of at most 64 values
 pub record AreFew (sizes : List ℕ) : Type 0 where
@@ -36,7 +37,7 @@ lacks_list byte bound numbers l b h =
 
 lacks_now : (byte : ℕ) (sizes now : List ℕ) → byte < 43 → AreFew sizes → Lacks byte (now_text sizes now)
 lacks_now byte sizes now l few =
-    lacks_dash byte (set_texts 0 sizes now) l (each_to (λ text. Lacks byte text × (0 < length text)) (Lacks byte) (set_texts 0 sizes now) (λ text g. g.0)
+    lacks_dash byte (set_texts 0 sizes now) l (each_map (λ text. Lacks byte text × (0 < length text)) (Lacks byte) (set_texts 0 sizes now) (λ text g. g.0)
     (lacks_sets byte 0 sizes now (below_digits byte (omega arith)) (λ q. omega arith) (λ q. omega arith) (omega (arith, few.count)) few.each))
 
 -- ---- the reason

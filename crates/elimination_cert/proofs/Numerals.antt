@@ -4,17 +4,15 @@ use Rattle.std.specs.Prelude.{◌/◌, ◌%◌}
 use Rattle.std.specs.List.{AllByRecursion as Each}
 use Rattle.std.specs.Fmt.{decimal}
 use Rattle.std.proofs.lemmas.Fmt.{decimal_by_steps, decimal_nonempty}
-use Rattle.elimination_cert.specs.Guesses.{value_behind, number_in, small_in}
+use Rattle.source_sink.proofs.DigitValues.{decimal_value}
+use Rattle.elimination_cert.specs.Guesses.{number_in, small_in}
 use Rattle.elimination_cert.proofs.Cuts.{Lacks, ArePieces}
+use Rattle.tableau_rules.proofs.Lists.{each_map}
 
 -- ---- of each element
 pub each_joined : {X : Type 0} (P : X → Type 0) (xs ys : List X) → Each P xs → Each P ys → Each P (xs ++ ys)
 each_joined P [] ys a b = b
 each_joined P (x ∷ xs) ys a b = (a.0, each_joined P xs ys a.1 b)
-
-pub each_to : {X : Type 0} (P Q : X → Type 0) (xs : List X) → ((x : X) → P x → Q x) → Each P xs → Each Q xs
-each_to P Q [] f h = tt
-each_to P Q (x ∷ xs) f h = (f x h.0, each_to P Q xs f h.1)
 
 pub each_mapped : {X Y : Type 0} (P : X → Type 0) (Q : Y → Type 0) (f : X → Y) (xs : List X) → ((x : X) → P x → Q (f x)) → Each P xs → Each Q (map f xs)
 each_mapped P Q f [] g h = tt
@@ -39,7 +37,7 @@ abbrev pub IsNoDigit : ℕ → Type 0
 IsNoDigit byte = (b : ℕ) → (48 ≤ b) × (b ≤ 57) → b ≢ byte
 
 pub lacks_decimal : (byte n : ℕ) → IsNoDigit byte → n < 2 ^ 64 → Lacks byte (decimal n)
-lacks_decimal byte n other h = each_to (λ b. (48 ≤ b) × (b ≤ 57)) (λ b. b ≢ byte) (decimal n) other (digits_decimal n h)
+lacks_decimal byte n other h = each_map (λ b. (48 ≤ b) × (b ≤ 57)) (λ b. b ≢ byte) (decimal n) other (digits_decimal n h)
 
 pub below_digits : (byte : ℕ) → byte < 48 → IsNoDigit byte
 below_digits byte l = λ b h e. omega arith
@@ -52,19 +50,6 @@ pub pieces_decimal : (byte : ℕ) (numbers : List ℕ) → IsNoDigit byte → Ea
 pieces_decimal byte numbers other h = each_mapped (λ n. n < 2 ^ 64) (λ text. Lacks byte text × (0 < length text)) decimal numbers (λ n l. (lacks_decimal byte n other l, decimal_nonempty n l)) h
 
 -- ---- values
-behind_more : (front : ℕ) (digits : List ℕ) (digit : ℕ) → value_behind front (digits ++ digit ∷ []) ≡ 10 * value_behind front digits + (digit - 48)
-behind_more front [] digit = refl
-behind_more front (d ∷ digits) digit = behind_more (10 * front + (d - 48)) digits digit
-
-decimal_value : (n : ℕ) → n < 2 ^ 64 → value_behind 0 (decimal n) ≡ n
-decimal_value n h = decimal_by_steps (λ m digits. value_behind 0 digits ≡ m) one more n h
-  where
-    one : (m : ℕ) → m < 10 → value_behind 0 ((48 + m) ∷ []) ≡ m
-    one m l = omega arith
-
-    more : (m : ℕ) (digits : List ℕ) → 10 ≤ m → value_behind 0 digits ≡ m / 10 → value_behind 0 (digits ++ (48 + m % 10) ∷ []) ≡ m
-    more m digits l e = omega (arith, behind_more 0 digits (48 + m % 10), e)
-
 pub number_again : (n : ℕ) → n < 2 ^ 32 → number_in (decimal n) ≡ n
 unfolding number_in
 number_again n h = let small : n < 2 ^ 64 = omega arith in omega (arith, decimal_value n small)

@@ -13,7 +13,7 @@ use Rattle.state_space.specs.declared.values.Values.{Values}
 use Rattle.state_space.specs.Spaces.{sizes}
 use Rattle.state_space.proofs.SpaceFacts.{as_many_sizes, few_variables, good_size}
 use Rattle.tableau_rules.specs.declared.certificate.CertNode.{CertNode}
-use Rattle.tableau_rules.specs.CertSeen.{cert_node_of}
+use Rattle.tableau_rules.specs.CertView.{cert_node_of}
 use Rattle.tableau_rules.specs.Certificates.{CertNodeForm}
 use Rattle.elimination_cert.specs.CertTexts.{first_line, node_text, FitsSizes}
 use Rattle.elimination_cert.specs.Readings.{IsLine}

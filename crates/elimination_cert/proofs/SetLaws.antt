@@ -17,8 +17,9 @@ use Rattle.state_space.proofs.BitSets.{with_has}
 use Rattle.elimination_cert.specs.CertTexts.{joined, set_text, set_texts, now_text}
 use Rattle.elimination_cert.specs.Guesses.{before, behind, pieces, number_in, listed_in, with_value, with_values, set_in, with_entry, with_entries, now_in}
 use Rattle.elimination_cert.proofs.Cuts.{Lacks, before_first, behind_first, pieces_joined}
-use Rattle.elimination_cert.proofs.Numerals.{IsNoDigit, each_joined, each_to, each_mapped, lacks_decimal, below_digits, above_digits, pieces_decimal, number_again}
+use Rattle.elimination_cert.proofs.Numerals.{IsNoDigit, each_joined, each_mapped, lacks_decimal, below_digits, above_digits, pieces_decimal, number_again}
 use Rattle.elimination_cert.proofs.ListLaws.{listed_again}
+use Rattle.tableau_rules.proofs.Lists.{each_map}
 
 -- ---- the indexes of one set
 with_values_push : (size : ℕ) (texts : List (List ℕ)) (text : List ℕ) (indexes : ℕ) → with_values size (texts ++ text ∷ []) indexes ≡ with_value size text (with_values size texts indexes)
@@ -194,7 +195,7 @@ now_again sizes now few small e h =
     let texts = set_texts 0 sizes now in
     let comma = lacks_sets 44 0 sizes now (below_digits 44 (omega arith)) (λ q. omega arith) (λ q. omega arith) (omega arith) small in
     let dash = lacks_sets 45 0 sizes now (below_digits 45 (omega arith)) (λ q. omega arith) (λ q. omega arith) (omega arith) small in
-    ap (λ ts. with_entries sizes ts (full_of sizes)) (listed_again texts comma (each_to (λ text. Lacks 45 text × (0 < length text)) (Lacks 45) texts (λ text g. g.0) dash))
+    ap (λ ts. with_entries sizes ts (full_of sizes)) (listed_again texts comma (each_map (λ text. Lacks 45 text × (0 < length text)) (Lacks 45) texts (λ text g. g.0) dash))
     ∙ entries_again [] [] sizes now refl few small (within sizes now e h)
 
 -- ---- what is read is of the sizes

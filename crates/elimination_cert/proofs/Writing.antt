@@ -11,7 +11,7 @@ use Rattle.state_space.specs.Members.{full_of}
 use Rattle.state_space.specs.declared.values.Values.{Values}
 use Rattle.state_space.proofs.Listing.{members_with}
 use Rattle.tableau_rules.specs.declared.certificate.CertNode.{CertNode}
-use Rattle.tableau_rules.specs.CertSeen.{cert_node_of}
+use Rattle.tableau_rules.specs.CertView.{cert_node_of}
 use Rattle.tableau_rules.specs.Sets.{numbers_from}
 use Rattle.tableau_rules.specs.Turns.{sets_of}
 use Rattle.elimination_cert.specs.CertTexts.{joined, set_text, set_texts}

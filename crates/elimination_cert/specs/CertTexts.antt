@@ -16,6 +16,7 @@ abbrev pub or_dash : List (List ℕ) → List ℕ
 or_dash [] = codes "-"
 or_dash (x ∷ xs) = joined 44 (x ∷ xs)
 
+-- `3,5,8`, or `-`
 abbrev pub list_text : List ℕ → List ℕ
 list_text numbers = or_dash (map decimal numbers)
 
@@ -28,9 +29,11 @@ abbrev pub set_texts : ℕ → List ℕ → List ℕ → List (List ℕ)
 set_texts x (size ∷ sizes) (set ∷ now) = if set == 2 ^ size - 1 then set_texts (suc x) sizes now else set_text x size set ∷ set_texts (suc x) sizes now
 set_texts x _ _ = []
 
+-- `0=1,2=0+2` of the variables of whose indexes some are gone, or `-`
 abbrev pub now_text : List ℕ → List ℕ → List ℕ
 now_text sizes now = or_dash (set_texts 0 sizes now)
 
+-- `clash`, `dead`, or `wait E` of the until with the number E
 abbrev pub reason_text : ReasonForm → List ℕ
 reason_text clash = codes "clash"
 reason_text dead = codes "dead"
@@ -46,6 +49,7 @@ node_text sizes c =
 abbrev pub first_line : ℕ → List ℕ
 first_line count = codes "certificate " ++ decimal count ++ codes "\n"
 
+-- the first line, and one for each node in order
 abbrev pub cert_text : List ℕ → List CertNodeForm → List ℕ
 cert_text sizes cert = first_line (length cert) ++ flat_map (node_text sizes) cert
 

@@ -2,6 +2,7 @@
 -- guess again and to compare the bytes.
 use Rattle.std.specs.Prelude.{ℕ, ◌+◌, ◌-◌, ◌*◌, ◌^◌, ◌==◌, if◌then◌else◌, nat_lt, min, List, [], ◌∷◌, length, map, take, drop, slice_index, codes, bytes_eq, bit_or, set}
 use Rattle.std.specs.List.{onto_first}
+use Rattle.source_sink.specs.Decimals.{value_behind}
 use Rattle.state_space.specs.Members.{full_of}
 use Rattle.tableau_rules.specs.Sets.{with_number}
 use Rattle.tableau_rules.specs.Certificates.{ReasonForm, clash, dead, wait, CertNodeForm}
@@ -16,15 +17,10 @@ abbrev pub behind : ℕ → List ℕ → List ℕ
 behind byte [] = []
 behind byte (b ∷ bytes) = if b == byte then bytes else behind byte bytes
 
--- the pieces between such bytes
+-- the pieces of a text between such bytes
 abbrev pub pieces : ℕ → List ℕ → List (List ℕ)
 pieces byte [] = []
 pieces byte (b ∷ bytes) = if b == byte then [] ∷ pieces byte bytes else onto_first b (pieces byte bytes)
-
--- the value of decimal digits behind those of a value
-abbrev pub value_behind : ℕ → List ℕ → ℕ
-value_behind front [] = front
-value_behind front (digit ∷ digits) = value_behind (10 * front + (digit - 48)) digits
 
 -- the number that the digits are, or the greatest of 32 bits
 unfoldable pub number_in : List ℕ → ℕ
@@ -43,7 +39,7 @@ abbrev pub with_all : List (List ℕ) → List ℕ → List ℕ
 with_all [] formulas = formulas
 with_all (text ∷ texts) formulas = with_all texts (with_number (small_in text) formulas)
 
--- the formulas of a list
+-- the numbers of formulas in a list `3,5,8`, ascending
 unfoldable pub formulas_in : List ℕ → List ℕ
 formulas_in bytes = with_all (pieces 44 (listed_in bytes)) []
 
@@ -92,11 +88,11 @@ behind_reason bytes =
     else if bytes_eq (before 32 bytes) (codes "dead") then behind 32 bytes
     else behind 32 (behind 32 bytes)
 
--- the field behind one word
+-- the field that stands behind one word, both up to a blank
 abbrev pub field : List ℕ → List ℕ
 field bytes = before 32 (behind 32 bytes)
 
--- what stands behind that field
+-- what stands behind the field that follows one word
 abbrev pub behind_field : List ℕ → List ℕ
 behind_field bytes = behind 32 (behind 32 bytes)
 
@@ -114,7 +110,7 @@ node_behind sizes rank reason bytes =
       reason = reason;
     }
 
--- the node of a line
+-- the node that a line is taken to spell
 abbrev pub node_in : List ℕ → List ℕ → CertNodeForm
 node_in sizes line = node_behind sizes (number_in (before 32 line)) (reason_in (behind 32 line)) (behind_reason (behind 32 line))
 

@@ -1,4 +1,4 @@
--- Lines in which no node is read.
+-- When the first line of bytes spells no node over variables of these sizes.
 use Rattle.std.specs.Prelude.{◌≡◌, ◌⊎◌, ℕ, List, ◌++◌, Contains}
 use Rattle.tableau_rules.specs.Certificates.{CertNodeForm}
 use Rattle.elimination_cert.specs.CertTexts.{node_text, FitsSizes}

@@ -22,7 +22,7 @@ pub record HasTooMany (bytes : List ℕ) (count : ℕ) : Type 0 where
 abbrev pub Begins : List ℕ → List ℕ → Type 0
 Begins sizes bytes = (rest : List ℕ) × (cert : List CertNodeForm) × Spells sizes (bytes ++ rest) cert
 
--- whole lines
+-- the bytes are whole lines, or none
 abbrev pub EndsLine : List ℕ → Type 0
 EndsLine bytes = (bytes ≡ []) ⊎ ((line : List ℕ) × (bytes ≡ line ++ 10 ∷ []))
 

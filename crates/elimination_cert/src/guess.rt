@@ -5,11 +5,11 @@
 ghost use Rattle.std.specs.Prelude.{◌≡◌, ℕ, ◌<◌, ◌≤◌, ◌==◌, IfOk, length, position};
 ghost use Rattle.state_space.specs.Spaces.{sizes};
 ghost use Rattle.tableau_rules.specs.Turns.{sets_of};
-ghost use Rattle.tableau_rules.specs.CertSeen.{reason_of, cert_node_of};
+ghost use Rattle.tableau_rules.specs.CertView.{reason_of, cert_node_of};
 ghost use Rattle.elimination_cert.specs.Guesses.{before, behind, number_in, small_in, listed_in, formulas_in as formulas_of, kids_in as kids_of, with_value, set_in as set_of, with_entry, with_entries, pieces, now_in as now_of, reason_in as reason_form, behind_reason, field, behind_field, node_in, count_in};
 
 use smallvec::SmallVec;
-use source_sink::Memory;
+use source_sink::{Memory, value_up_to};
 use state_space::{Space, Values, VarId};
 use std::alloc::Global;
 use tableau_rules::{Bits, CertNode, Mark, Node, Reason};
@@ -37,12 +37,7 @@ fn cut(bytes: &[u8], byte: u8) -> (&[u8], &[u8])
 fn number_in(digits: &[u8]) -> u32
     ensures { result ≡ number_in digits.now }
 {
-    let mut value = 0_u64;
-    'digits: for digit in digits {
-        let digit_value = u64::from(digit.saturating_sub(b'0'));
-        value = (10 * value + digit_value).min(4_294_967_295);
-    }
-    value as u32
+    value_up_to(digits, 4_294_967_295) as u32
 }
 
 // The number of 16 bits that the digits are.

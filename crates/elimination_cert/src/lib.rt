@@ -12,6 +12,3 @@ pub use law::law_of_texts;
 pub use read::read_cert;
 pub use refusal::CertRefusal;
 pub use text::cert_text;
-
-#[cfg(test)]
-mod tests;

@@ -4,7 +4,7 @@
 ghost use Rattle.std.specs.Prelude.{◌≡◌, ℕ, ◌<◌, ◌≤◌, ◌^◌, ◌++◌, IfOk, IfErr, IfSome, IfNone, MatchOption, length, map, take, drop, All, Contains};
 ghost use Rattle.state_space.specs.Spaces.{sizes};
 ghost use Rattle.tableau_rules.specs.Certificates.{CertNodeForm};
-ghost use Rattle.tableau_rules.specs.CertSeen.{cert_node_of, cert_of};
+ghost use Rattle.tableau_rules.specs.CertView.{cert_node_of, cert_of};
 ghost use Rattle.elimination_cert.specs.CertTexts.{first_line, node_text, FitsSizes};
 ghost use Rattle.elimination_cert.specs.Readings.{IsLine, Spells, Refuses};
 ghost use Rattle.elimination_cert.specs.Lines.{HasNoNode};

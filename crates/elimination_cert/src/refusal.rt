@@ -1,4 +1,5 @@
-//! Why bytes are not read as a certificate.
+//! Why bytes are not read as a certificate, with the place to look at: bytes are counted from 0.
+//! What is refused spells no certificate of at most 200,000 nodes, unless memory ran out.
 
 ghost use Rattle.std.specs.Prelude.{◌≡◌};
 ghost use Rattle.elimination_cert.specs.declared.refusal.CertRefusal.TheVariants as refusals;

@@ -6,30 +6,15 @@ ghost use Rattle.std.specs.Fmt.{decimal};
 ghost use Rattle.state_space.specs.Spaces.{sizes};
 ghost use Rattle.state_space.specs.ValueTexts.{members};
 ghost use Rattle.tableau_rules.specs.Turns.{sets_of};
-ghost use Rattle.tableau_rules.specs.CertSeen.{reason_of, cert_node_of, cert_of};
+ghost use Rattle.tableau_rules.specs.CertView.{reason_of, cert_node_of, cert_of};
 ghost use Rattle.elimination_cert.specs.CertTexts.{joined, list_text, set_text, now_text, reason_text, node_text, first_line, cert_text as text_of_cert, FitsSizes};
 ghost use Rattle.tableau_rules.specs.Sets.{numbers_from};
 ghost use Rattle.elimination_cert.specs.Endings.{more_texts, numbers_left};
 
-use itoa::Buffer;
-use source_sink::Memory;
+use source_sink::{Memory, put, put_decimal};
 use state_space::{Space, Values, VarId};
 use std::alloc::Global;
 use tableau_rules::{Bits, Cert, CertNode, Reason};
-
-fn put(out: &mut Vec<u8>, bytes: &[u8]) -> Result<(), Memory>
-    ensures { OnOk result (out.new.items ≡ out.old.items ++ bytes.now) }
-{
-    out.extend_from_slice(bytes)?;
-    Ok(())
-}
-
-fn put_number(out: &mut Vec<u8>, number: u64) -> Result<(), Memory>
-    ensures { OnOk result (out.new.items ≡ out.old.items ++ decimal number) }
-{
-    let mut buffer = Buffer::new();
-    put(out, buffer.format(number).as_bytes())
-}
 
 // The comma before a text of a list, but for the first.
 fn put_comma(out: &mut Vec<u8>, first: bool) -> Result<(), Memory>
@@ -48,7 +33,7 @@ fn put_next(out: &mut Vec<u8>, number: u64, first: bool) -> Result<(), Memory>
         → out.new.items ++ more_texts false texts ≡ out.old.items ++ more_texts first (decimal number ∷ texts)) }
 {
     put_comma(out, first)?;
-    put_number(out, number)
+    put_decimal(out, number)
 }
 
 // The end of a list, which is `-` where nothing came.
@@ -102,7 +87,7 @@ fn put_value(out: &mut Vec<u8>, value: u8, first: bool) -> Result<(), Memory>
     if !first {
         put(out, b"+")?;
     }
-    put_number(out, u64::from(value))
+    put_decimal(out, u64::from(value))
 }
 
 // The indexes of the set below the size.
@@ -124,7 +109,7 @@ fn put_set(out: &mut Vec<u8>, x: u8, size: u8, set: Values) -> Result<(), Memory
     requires { size ≤ 64 }
     ensures { OnOk result (out.new.items ≡ out.old.items ++ set_text x size set.0) }
 {
-    put_number(out, u64::from(x))?;
+    put_decimal(out, u64::from(x))?;
     put(out, b"=")?;
     put_values(out, set, size)
 }
@@ -179,7 +164,7 @@ fn put_reason(out: &mut Vec<u8>, reason: Reason) -> Result<(), Memory>
         Reason::Dead => put(out, b"dead"),
         Reason::Wait(until) => {
             put(out, b"wait ")?;
-            put_number(out, u64::from(until))
+            put_decimal(out, u64::from(until))
         }
     }
 }
@@ -189,7 +174,7 @@ pub(crate) fn put_node(out: &mut Vec<u8>, space: &Space, entry: &CertNode) -> Re
     requires { length entry.now.node.now.items ≡ length (sizes space.now) }
     ensures { OnOk result (out.new.items ≡ out.old.items ++ node_text (sizes space.now) (cert_node_of entry.entry.now)) }
 {
-    put_number(out, u64::from(entry.mark.rank))?;
+    put_decimal(out, u64::from(entry.mark.rank))?;
     put(out, b" ")?;
     put_reason(out, entry.mark.reason)?;
     put(out, b" todo ")?;
@@ -208,7 +193,7 @@ pub(crate) fn put_first_line(out: &mut Vec<u8>, count: u64) -> Result<(), Memory
     ensures { OnOk result (out.new.items ≡ out.old.items ++ first_line count) }
 {
     put(out, b"certificate ")?;
-    put_number(out, count)?;
+    put_decimal(out, count)?;
     put(out, b"\n")
 }
 

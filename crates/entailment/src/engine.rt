@@ -1,9 +1,11 @@
-//! The engine.
+//! The engine, for whoever asks whether a list of formulas has a trace: it explores, eliminates and
+//! builds, and joins what these promise. Its answer is valid for every query and budget, and it is
+//! withheld only where the tableau is over the budget.
 
 ghost use Rattle.std.specs.Prelude.{All, IfOk};
 ghost use Rattle.state_space.specs.Spaces.{sizes};
 ghost use Rattle.tableau_rules.specs.Queries.{IsOver};
-ghost use Rattle.tableau_rules.specs.QuerySeen.{cores_in};
+ghost use Rattle.tableau_rules.specs.QueryView.{cores_in};
 ghost use Rattle.tableau_rules.specs.Answers.{IsValidAnswer};
 
 use lasso_builder::build;

@@ -9,6 +9,3 @@ mod query;
 pub use engine::Engine;
 pub use law::law_of_queries;
 pub use query::query_of;
-
-#[cfg(test)]
-mod tests;

@@ -1,12 +1,13 @@
-//! From formulas to the query of their cores.
+//! From formulas to the query of their positive cores, in order: the query has a trace where the
+//! list has, as law.rt says.
 
 ghost use Rattle.std.specs.Prelude.{◌≡◌, All, IfOk, map};
 ghost use Rattle.state_space.specs.Spaces.{ranges, sizes};
 ghost use Rattle.temporal_logic.specs.Trees.{tree_of};
 ghost use Rattle.temporal_logic.specs.Fits.{Fits};
 ghost use Rattle.bound_unfolding.specs.Totals.{cores_of, AreSmall};
-ghost use Rattle.bound_unfolding.specs.CoreSeen.{core_tree_of};
-ghost use Rattle.tableau_rules.specs.QuerySeen.{cores_in};
+ghost use Rattle.bound_unfolding.specs.CoreView.{core_tree_of};
+ghost use Rattle.tableau_rules.specs.QueryView.{cores_in};
 ghost use Rattle.tableau_rules.specs.Queries.{IsOver};
 
 use bound_unfolding::{Core, core_of};

@@ -6,41 +6,7 @@ use Rattle.std.proofs.lemmas.Map.Views.{Contains-from_any}
 use Rattle.bound_unfolding.specs.CoreForm.{CoreForm, core_true, core_false, lit, both, either, after, core_until, core_release}
 use Rattle.formula_table.specs.Closures.{is_same, formula_at, number_in}
 use Rattle.formula_table.specs.Distinct.{IsMember, IsDistinct}
-
--- ---- tests
-pub cond_case : {X : Type 0} (C : X → Type 0) (b : Bool) (u v : X) → (IsTrue b → C u) → (IsFalse b → C v) → C (cond b u v)
-cond_case C true u v f g = f refl
-cond_case C false u v f g = g refl
-
-or_left : (a b : Bool) → IsTrue a → IsTrue (a || b)
-or_left true b h = refl
-or_left false b h = absurd (true≢false (sym h))
-
-or_right : (a b : Bool) → IsTrue b → IsTrue (a || b)
-or_right true b h = refl
-or_right false b h = h
-
-or_true : (a b : Bool) → IsTrue (a || b) → IsTrue a ⊎ IsTrue b
-or_true true b h = inl refl
-or_true false b h = inr h
-
-or_false : (a b : Bool) → IsFalse (a || b) → IsFalse b
-or_false true b h = absurd (true≢false h)
-or_false false b h = h
-
-and_intro : (a b : Bool) → IsTrue a → IsTrue b → IsTrue (a && b)
-and_intro true b h k = k
-and_intro false b h k = absurd (true≢false (sym h))
-
-and_true : (a b : Bool) → IsTrue (a && b) → IsTrue a × IsTrue b
-and_true true b h = (refl, h)
-and_true false b h = absurd (true≢false (sym h))
-
-eq_of : (x y : ℕ) → IsTrue (x == y) → x ≡ y
-eq_of x y h = grind arith
-
-eq_self : (x : ℕ) → IsTrue (x == x)
-eq_self x = grind arith
+use Rattle.formula_table.proofs.Tests.{cond_case, or_left, or_right, or_true, or_false, and_intro, and_true, eq_of, eq_self}
 
 -- ---- equal cores
 pub same_eq : (a b : CoreForm) → IsTrue (is_same a b) → a ≡ b

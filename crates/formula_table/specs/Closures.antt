@@ -42,6 +42,7 @@ with_core (after a) closure = with_formula (after a) (with_core a closure)
 with_core (core_until a b) closure = with_formula (core_until a b) (with_core b (with_core a closure))
 with_core (core_release a b) closure = with_formula (core_release a b) (with_core b (with_core a closure))
 
+-- the subformulas of the cores, one core behind the other, come behind those that are there
 abbrev pub with_cores : List CoreForm → List CoreForm → List CoreForm
 with_cores [] closure = closure
 with_cores (c ∷ cs) closure = with_cores cs (with_core c closure)
@@ -50,6 +51,7 @@ with_cores (c ∷ cs) closure = with_cores cs (with_core c closure)
 abbrev pub closure_of : List CoreForm → List CoreForm
 closure_of cores = with_cores cores []
 
+-- the formulas that a core joins, in order
 abbrev pub operands : CoreForm → List CoreForm
 operands (both a b) = a ∷ b ∷ []
 operands (either a b) = a ∷ b ∷ []

@@ -1,4 +1,6 @@
-//! Core formulas that are kept once each, by number: equal numbers have equal trees, and equal trees have equal numbers.
+//! Core formulas that are kept once each, by number, for whoever keeps sets of them: equal numbers
+//! have equal trees, and equal trees have equal numbers. Numbers are given in the order of
+//! specs/Closures.antt, on which the numbers in certificates rest.
 #![tactic(auto)]
 
 mod law;
@@ -8,6 +10,3 @@ mod table;
 pub use law::law_of_tables;
 pub use shape::{FormulaId, Shape};
 pub use table::{PutRefusal, Table};
-
-#[cfg(test)]
-mod tests;

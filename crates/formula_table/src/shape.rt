@@ -1,4 +1,5 @@
-//! Formulas by their outermost operator, with the numbers of their operands in a table.
+//! Formulas by their outermost operator, with the numbers of their operands in a table. A shape is
+//! hashed by its kind and two numbers, which tell it from every other: specs/ShapeWords.antt.
 
 ghost use Rattle.std.specs.Prelude.{◌≡◌, ◌++◌};
 ghost use Rattle.std.proofs.Common.{rules};

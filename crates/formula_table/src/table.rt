@@ -1,4 +1,7 @@
-//! Tables of formulas: each formula is there once, behind its operands, and there are at most 4,096.
+//! Tables of formulas: each formula is there once, behind its operands, and there are at most
+//! 4,096. The plain form is the closure of specs/Closures.antt, a list in which whole trees are
+//! compared; here a formula is found by the hash of its shape, so that putting it takes one look-up
+//! and no walk of trees. It has no time of its own in docs/ARCHITECTURE.md.
 
 ghost use Rattle.std.specs.Prelude.{◌≡◌, ◌≤◌, length};
 ghost use Rattle.formula_table.specs.Decoding.{decoded, OperandsFirst};
@@ -33,7 +36,7 @@ impl<T: Drop> From<AllocFailed<T>> for PutRefusal {
 }
 
 /// At most 4,096 formulas, each of them once, and behind its operands.
-#[derive(Debug, Drop)]
+#[derive(Drop)]
 pub struct Table {
     shapes: IndexSet<Shape>,
     pub ghost few: { length shapes.keys ≤ 4096 },
@@ -43,7 +46,7 @@ pub struct Table {
 
 impl Table {
     ghost use Rattle.std.specs.Prelude.{◌<◌, ◌↔◌, [], IsTrue, IsFalse, IfOk, OnOk, OnErr, IsErrOf, Contains};
-    ghost use Rattle.bound_unfolding.specs.CoreSeen.{core_tree_of};
+    ghost use Rattle.bound_unfolding.specs.CoreView.{core_tree_of};
     ghost use Rattle.formula_table.specs.Closures.{formula_at, number_in, with_formula, with_core};
     ghost use Rattle.formula_table.specs.Decoding.{formula_of, OperandsBelow};
     ghost use Rattle.formula_table.specs.Tables.{closure_in, with_operands, IsKept, AddsOnly, IsSubformula};

@@ -10,7 +10,7 @@ use Rattle.std.proofs.lemmas.List.Elements.{All-nil, All-push, All-weaker}
 use Rattle.state_space.specs.Ranges.{RangeForm, size_of, IsGoodRange}
 use Rattle.temporal_logic.specs.Ltl.{Ltl}
 use Rattle.temporal_logic.specs.Fits.{Fits}
-use Rattle.model_text.specs.Statements.{Setting, StatementForm, version, variable, domain, rule, goal, obstacle, refinement, obstruction, conflict, agent, assignment, expectation, operation, requirement, operationalisation, trace}
+use Rattle.model_text.specs.Statements.{Setting, StatementForm, version, variable, entity_type, attribute, domain, rule, goal, obstacle, refinement, obstruction, conflict, agent, assignment, expectation, operation, requirement, operationalisation, trace}
 use Rattle.goal_model.specs.Models.{NamedFormula, LinkForm, TraceForm, ModelForm, sizes_of}
 use Rattle.goal_model.specs.Names.{place_of}
 use Rattle.goal_model.specs.ValueIndexes.{is_good}
@@ -189,6 +189,8 @@ taken_draft m next number (trace x prefix cycle) e d =
     let made = traced m x (states_over m.names m.ranges prefix) (states_over m.names m.ranges cycle) in
     traced_draft m next x (states_over m.names m.ranges prefix) (states_over m.names m.ranges cycle) (λ rows h. rows_fit_first m prefix rows d h) (λ rows h. rows_fit_first m cycle rows d h)
     (not_none (is_declared m x) made next e).1 d
+taken_draft m next number (entity_type x xs) e d = absurd (none-some next e)
+taken_draft m next number (attribute x t r) e d = absurd (none-some next e)
 taken_draft m next number (rule x f g) e d = absurd (none-some next e)
 taken_draft m next number (obstacle x f) e d = absurd (none-some next e)
 taken_draft m next number (refinement x xs (Some pattern)) e d = absurd (none-some next e)

@@ -11,7 +11,7 @@ use Rattle.state_space.specs.Ranges.{RangeForm, truth_values, named, span, above
 use Rattle.temporal_logic.specs.Ltl.{Relation, Ltl}
 use Rattle.temporal_logic.specs.Ltl as ltl
 use Rattle.temporal_logic.specs.Fits.{size_at, Fits}
-use Rattle.model_text.specs.RawTrees.{WrittenValue, a_word, a_number, a_truth, RawTree}
+use Rattle.model_text.specs.RawTrees.{WrittenValue, a_word, a_number, a_truth, an_attribute, RawTree}
 use Rattle.model_text.specs.RawTrees as raw
 use Rattle.goal_model.specs.Names.{place_of}
 use Rattle.goal_model.specs.ValueIndexes.{index_in, set_with, is_same_range}
@@ -37,15 +37,18 @@ index_inside truth_values (a_truth false) i good e = subst (λ k. k < 2) (same_S
 index_inside truth_values (a_truth true) i good e = subst (λ k. k < 2) (same_Some 1 i e) (omega arith)
 index_inside truth_values (a_word x) i good e = absurd (none-some i e)
 index_inside truth_values (a_number n) i good e = absurd (none-some i e)
+index_inside truth_values (an_attribute f x) i good e = absurd (none-some i e)
 index_inside (named xs) (a_word x) i good e = place_inside x xs i e
 index_inside (named xs) (a_number n) i good e = absurd (none-some i e)
 index_inside (named xs) (a_truth b) i good e = absurd (none-some i e)
+index_inside (named xs) (an_attribute f x) i good e = absurd (none-some i e)
 index_inside (span low high) (a_number n) i good e =
     let chosen = some_chosen (le_z low n && le_z n high) (Some (above_zero (n -ℤ low))) i e in
     let both = and_parts (le_z low n) (le_z n high) chosen.0 in
     subst (λ k. k < size_of (span low high)) (same_Some (above_zero (n -ℤ low)) i chosen.1) (above_zero_less low n high both.0 both.1)
 index_inside (span low high) (a_word x) i good e = absurd (none-some i e)
 index_inside (span low high) (a_truth b) i good e = absurd (none-some i e)
+index_inside (span low high) (an_attribute f x) i good e = absurd (none-some i e)
 
 pub set_inside : (r : RangeForm) (set : ℕ) (vs : List WrittenValue) (all : ℕ) → IsGoodRange r → set < 2 ^ size_of r → set_with r set vs ≡ Some all → all < 2 ^ size_of r
 set_inside r set [] all good l e = subst (λ k. k < 2 ^ size_of r) (same_Some set all e) l
@@ -74,6 +77,7 @@ compared_fits ns rs x r (a_word y) None g many l below e =
     related_fits rs x r s.0 g l inside s.2
 compared_fits ns rs x r (a_number n) None g many l below e = absurd (none-some g e)
 compared_fits ns rs x r (a_truth b) None g many l below e = absurd (none-some g e)
+compared_fits ns rs x r (an_attribute f y) None g many l below e = absurd (none-some g e)
 
 -- formulas
 
@@ -103,6 +107,11 @@ formula_fits ns rs good many (raw.among x vs) g e =
     let m = mapped (ltl.among s.0) (set_with (range_at rs s.0) 0 vs) g s.2 in
     let within : m.0 < 2 ^ size_of (range_at rs s.0) = set_inside (range_at rs s.0) 0 vs m.0 (good s.0 truth_values inside) (omega (arith, pow_below 0 (size_of (range_at rs s.0)) (good s.0 truth_values inside).some)) m.1 in
     subst (Fits rs) m.2 (inside, subst (λ n. m.0 < 2 ^ n) (sym (size_at_is rs s.0 inside)) within)
+formula_fits ns rs good many (raw.bare_of f x) g e = absurd (none-some g e)
+formula_fits ns rs good many (raw.compares_of f x r v) g e = absurd (none-some g e)
+formula_fits ns rs good many (raw.among_of f x vs) g e = absurd (none-some g e)
+formula_fits ns rs good many (raw.for_all x t a) g e = absurd (none-some g e)
+formula_fits ns rs good many (raw.for_some x t a) g e = absurd (none-some g e)
 formula_fits ns rs good many (raw.neg a) g e = one_fits rs ltl.neg (formula_over ns rs a) g (λ b h. formula_fits ns rs good many a b h) e
 formula_fits ns rs good many (raw.next a) g e = one_fits rs ltl.next (formula_over ns rs a) g (λ b h. formula_fits ns rs good many a b h) e
 formula_fits ns rs good many (raw.eventually a) g e = one_fits rs ltl.eventually (formula_over ns rs a) g (λ b h. formula_fits ns rs good many a b h) e

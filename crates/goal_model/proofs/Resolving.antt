@@ -5,7 +5,7 @@ use Rattle.std.proofs.lemmas.Option.{none-some}
 use Rattle.std.proofs.lemmas.Bool.{false≢true}
 use Rattle.std.proofs.Math.ListN.{drop_of_length-le}
 use Rattle.model_text.specs.declared.statement.Statement as code
-use Rattle.model_text.specs.Statements.{StatementForm, version, variable, domain, rule, goal, obstacle, refinement, obstruction, conflict, agent, assignment, expectation, operation, requirement, operationalisation, trace, statement_of, all_statements}
+use Rattle.model_text.specs.Statements.{StatementForm, version, variable, entity_type, attribute, domain, rule, goal, obstacle, refinement, obstruction, conflict, agent, assignment, expectation, operation, requirement, operationalisation, trace, statement_of, all_statements}
 use Rattle.goal_model.specs.declared.resolution.ModelRefusal.{ModelRefusal}
 use Rattle.goal_model.specs.declared.resolution.ModelRefusal.TheVariants as refusal
 use Rattle.goal_model.specs.declared.resolution.Step.TheVariants.{Taken, Unresolved, NotBuilt}
@@ -76,6 +76,8 @@ none_not_built m next number (goal x f) e h = false≢true (sym e)
 none_not_built m next number (refinement x xs None) e h = false≢true (sym e)
 none_not_built m next number (trace x prefix cycle) e h = false≢true (sym e)
 none_not_built m next number (refinement x xs (Some pattern)) e h = none-some next h
+none_not_built m next number (entity_type x xs) e h = none-some next h
+none_not_built m next number (attribute x t r) e h = none-some next h
 none_not_built m next number (rule x f g) e h = none-some next h
 none_not_built m next number (obstacle x f) e h = none-some next h
 none_not_built m next number (obstruction x xs) e h = none-some next h

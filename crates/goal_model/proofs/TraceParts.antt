@@ -21,17 +21,13 @@ use Rattle.goal_model.specs.Judging.{IsDraft}
 use Rattle.goal_model.proofs.Choices.{not_none}
 use Rattle.goal_model.proofs.FittingStates.{states_fit}
 use Rattle.goal_model.proofs.Cycles.{no_cycle_trace}
+use Rattle.temporal_logic.proofs.RowStates.{states_of_rows}
 
 -- an element of a list whose view has a property
 pub viewed_at : {X Y : Type 0} (P : Y → Type 0) (f : X → Y) (xs : List X) (i : ℕ) (x : X) → i < length xs → x ≡ get_or xs i x → All P (map f xs) → P (f x)
 viewed_at P f xs i x l is all =
     let e : get_or (map f xs) i (f x) ≡ f x = get_or-map f xs i x (f x) l ∙ ap f (sym is) in
     subst P e (all i (f x) (rw (length-map xs f) l))
-
--- rows that fit are states that fit
-pub states_of_rows : (sizes : List ℕ) (states : List State) → All (ValuesFit sizes) (rows states) → AllFit sizes states
-states_of_rows sizes states fit k d l =
-    subst (ValuesFit sizes) (get_or-map (λ (s : State). s.values.items) states k d d.values.items l) (fit k d.values.items (rw (length-map states (λ (s : State). s.values.items)) l))
 
 rows_of_states : (sizes : List ℕ) (states : List State) → AllFit sizes states → All (ValuesFit sizes) (rows states)
 rows_of_states sizes states fit = All-map (ValuesFit sizes) (λ (s : State). s.values.items) states fit

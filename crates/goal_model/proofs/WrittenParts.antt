@@ -11,7 +11,7 @@ use Rattle.temporal_logic.specs.Ltl.{Relation, Ltl}
 use Rattle.temporal_logic.specs.Ltl as ltl
 use Rattle.model_text.specs.declared.raw_formula.RawValue.{RawValue}
 use Rattle.model_text.specs.RawTrees.{WrittenValue}
-use Rattle.model_text.specs.RawSeen.{written}
+use Rattle.model_text.specs.RawView.{written}
 use Rattle.goal_model.specs.ValueIndexes.{index_in, set_with, is_same_range}
 use Rattle.goal_model.specs.Formulas.{range_at, bare_over, related_over, compared_over}
 use Rattle.goal_model.proofs.RangeTests.{same_range_tested, same_range_test}

@@ -1,4 +1,4 @@
--- What is asked of each refinement.
+-- The demand of each refinement: the list of formulas that no trace is to meet, and how large it may be.
 use Rattle.std.specs.Prelude.{ℕ, List, [], ◌∷◌, ◌++◌, map, slice_index_or}
 use Rattle.temporal_logic.specs.Ltl.{Ltl, truth, neg}
 use Rattle.bound_unfolding.specs.Totals.{AreSmall}

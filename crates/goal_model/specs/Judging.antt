@@ -13,6 +13,7 @@ use Rattle.goal_model.specs.Resolution.{taken, is_built}
 abbrev pub FitFirst : List ℕ → List ℕ → Type 0
 FitFirst sizes row = (length row ≤ length sizes) × ((x : ℕ) → x < length row → slice_index row x < slice_index sizes x)
 
+-- a trace with a state in its loop, each of whose states has indexes that fit the first variables
 pub record TraceFitsFirst (sizes : List ℕ) (t : TraceForm) : Type 0 where
   pub turns : 0 < length t.cycle
   pub prefix : All (FitFirst sizes) t.prefix

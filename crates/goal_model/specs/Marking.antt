@@ -1,6 +1,7 @@
 -- Marks on goals, and the goals whose links are still to be followed.
 use Rattle.std.specs.Prelude.{◌≡◌, ℕ, ◌+◌, ◌*◌, ◌≤◌, ◌⊎◌, Bool, true, false, cond, List, [], ◌∷◌, length, slice_index_or, Contains}
 
+-- the goal at the place has a mark
 abbrev pub IsMarked : List Bool → ℕ → Type 0
 IsMarked marks g = slice_index_or marks g false ≡ true
 

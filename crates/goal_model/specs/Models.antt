@@ -1,4 +1,4 @@
--- Models, wherever their parts lie in memory.
+-- Models as plain lists, wherever their parts lie in memory, and when one is well-formed.
 use Rattle.std.specs.Prelude.{ℕ, ◌<◌, ◌≡◌, List, length, map, All}
 use Rattle.state_space.specs.Ranges.{RangeForm, size_of, IsGoodRange}
 use Rattle.state_space.specs.Fitting.{ValuesFit}
@@ -32,6 +32,7 @@ pub record TraceForm : Type 0 where
   pub prefix : List (List ℕ)
   pub cycle : List (List ℕ)
 
+-- what a text declares, with every name looked up: the names and ranges of its variables, and all else in statement order, by places from 0
 pub record ModelForm : Type 0 where
   pub names : List (List ℕ)
   pub ranges : List RangeForm
@@ -40,18 +41,23 @@ pub record ModelForm : Type 0 where
   pub links : List LinkForm
   pub traces : List TraceForm
 
+-- a domain property of the code, with the tree of its formula
 abbrev pub property_of : Property → NamedFormula
 property_of p = record { statement = p.statement; name = p.name; formula = tree_of p.formula }
 
+-- a goal of the code, with the tree of its formula
 abbrev pub goal_of : Goal → NamedFormula
 goal_of g = record { statement = g.statement; name = g.name; formula = tree_of g.formula }
 
+-- a link of the code, which so far is a refinement
 abbrev pub link_of : code.Link → LinkForm
 link_of (Refine statement parent subgoals) = record { statement = statement; parent = parent; subgoals = subgoals.items }
 
+-- a trace of the code, with the rows of its states
 abbrev pub named_trace_of : NamedTrace → TraceForm
 named_trace_of t = record { name = t.name; prefix = rows t.lasso.prefix.items; cycle = rows t.lasso.cycle.items }
 
+-- the model that one of the code stands for, wherever its parts lie in memory
 abbrev pub model_of : Model → ModelForm
 model_of m = record {
   names = spaces.names m.space;

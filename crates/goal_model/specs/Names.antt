@@ -1,4 +1,4 @@
--- Names, by their places in lists.
+-- Where a name stands in a list, counted from 0, and when no name comes twice.
 use Rattle.std.specs.Prelude.{ℕ, Bool, true, ◌&&◌, not, List, [], ◌∷◌, position, bytes_eq, Option}
 use Rattle.std.specs.List.{list_any}
 

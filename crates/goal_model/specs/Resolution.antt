@@ -14,16 +14,19 @@ use Rattle.goal_model.specs.Formulas.{formula_over}
 use Rattle.goal_model.specs.States.{states_over}
 use Rattle.goal_model.specs.Reachability.{ClosesCycle}
 
+-- the names of the goals, by their places
 abbrev pub goal_names : ModelForm → List (List ℕ)
 goal_names m = map (λ g. g.name) m.goals
 
+-- the names of the domain properties, by their places
 abbrev pub domain_names : ModelForm → List (List ℕ)
 domain_names m = map (λ p. p.name) m.domains
 
+-- the names of the traces, by their places
 abbrev pub trace_names : ModelForm → List (List ℕ)
 trace_names m = map (λ t. t.name) m.traces
 
--- whether a name is declared
+-- whether a name is declared already, of whatever kind: all kinds share one namespace
 abbrev pub is_declared : ModelForm → List ℕ → Bool
 is_declared m x =
     is_some (place_of x m.names) || (is_some (place_of x (domain_names m)) || (is_some (place_of x (goal_names m)) || is_some (place_of x (trace_names m))))
@@ -38,6 +41,7 @@ unfoldable pub places_behind : List (List ℕ) → List ℕ → List (List ℕ) 
 places_behind names front [] = Some front
 places_behind names front (x ∷ xs) = option_and_then (λ more. places_behind names more xs) (place_behind front (place_of x names))
 
+-- what the statement of a number declares under a name: a domain property or a goal
 abbrev named : ℕ → List ℕ → Ltl → NamedFormula
 named number x f = record { statement = number; name = x; formula = f }
 
@@ -75,6 +79,7 @@ pub data Makes : ModelForm → ℕ → List StatementForm → ModelForm → Type
   goes_on : (m next last : ModelForm) (number : ℕ) (s : StatementForm) (ss : List StatementForm) → taken m number s ≡ Some next → ¬ (ClosesCycle m next) → Makes next (number + 1) ss last
       → Makes m number (s ∷ ss) last
 
+-- the model before any statement is taken: nothing is declared
 abbrev pub no_model : ModelForm
 no_model = record { names = []; ranges = []; domains = []; goals = []; links = []; traces = [] }
 
@@ -82,9 +87,11 @@ no_model = record { names = []; ranges = []; domains = []; goals = []; links = [
 abbrev pub padded : ℕ → List ℕ → List ℕ
 padded n row = row ++ replicate (n - length row) 0
 
+-- a trace with an index for each of n variables in every state
 abbrev pub padded_trace : ℕ → TraceForm → TraceForm
 padded_trace n t = record t { prefix = map (padded n) t.prefix; cycle = map (padded n) t.cycle }
 
+-- the model behind its last statement: each state now has an index for each variable, also for those declared behind its trace
 abbrev pub finished : ModelForm → ModelForm
 finished m = record m { traces = map (padded_trace (length m.names)) m.traces }
 

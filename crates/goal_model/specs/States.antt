@@ -3,7 +3,7 @@ use Rattle.std.specs.Prelude.{ℕ, Bool, ◌&&◌, List, [], ◌∷◌, map, byt
 use Rattle.std.specs.List.{list_all}
 use Rattle.state_space.specs.Ranges.{RangeForm}
 use Rattle.model_text.specs.declared.raw_formula.RawValue.{RawValue}
-use Rattle.model_text.specs.RawSeen.{written}
+use Rattle.model_text.specs.RawView.{written}
 use Rattle.model_text.specs.Statements.{Setting}
 use Rattle.goal_model.specs.Names.{place_of, are_apart}
 use Rattle.goal_model.specs.ValueIndexes.{index_in}
@@ -35,6 +35,7 @@ are_settings names sets = list_all (λ s. is_some (place_of s.variable names)) s
 abbrev pub state_over : List (List ℕ) → List RangeForm → List Setting → Option (List ℕ)
 state_over names ranges sets = if are_settings names sets then indexes_set names ranges sets else None
 
+-- the indexes of each state of a list; none where one state has none
 abbrev pub states_over : List (List ℕ) → List RangeForm → List (List Setting) → Option (List (List ℕ))
 states_over names ranges [] = Some []
 states_over names ranges (s ∷ ss) = in_front (state_over names ranges s) (states_over names ranges ss)

@@ -17,7 +17,7 @@ use state_space::Space;
 use temporal_logic::Formula;
 
 // How large the positive cores of a list of formulas are.
-#[derive(Clone, Copy, Debug)]
+#[derive(Clone, Copy)]
 struct Size {
     // The nodes of all of them, up to 4097.
     nodes: u64,

@@ -1,11 +1,13 @@
-//! From formulas as they are written to formulas over the variables of a space.
+//! From formulas as they are written to formulas over the variables of a space, one match arm an
+//! operator. None comes back exactly where specs/Formulas.antt gives none; a further kind of atom
+//! or operator gets its arm here and there.
 
 ghost use Rattle.std.specs.Prelude.{◌≡◌, ◌<◌, None, Some, length, map, IfOk, option_map, option_and_then};
 ghost use Rattle.state_space.specs.Spaces.{names, ranges};
 ghost use Rattle.temporal_logic.specs.Ltl.{Ltl};
 ghost use Rattle.temporal_logic.specs.Trees.{tree_of, relation_of};
 ghost use Rattle.model_text.specs.RawTrees.{bare as bare_tree, compares as compares_tree, among as among_tree};
-ghost use Rattle.model_text.specs.RawSeen.{raw_tree, written};
+ghost use Rattle.model_text.specs.RawView.{raw_tree, written};
 ghost use Rattle.goal_model.specs.Names.{place_of};
 ghost use Rattle.goal_model.specs.Formulas.{related_over, compared_over, both_over, formula_over};
 
@@ -119,6 +121,7 @@ pub(crate) fn formula(
         RawFormula::Bare(name) => Ok(bare(space, name)),
         RawFormula::Compare(name, cmp, value) => Ok(compared(space, name, *cmp, value)),
         RawFormula::Among(name, values) => Ok(among(space, name, values)),
+        RawFormula::BareOf(..) | RawFormula::CompareOf(..) | RawFormula::AmongOf(..) => Ok(None),
         RawFormula::Not(a) => Ok(operand(alloc, space, a)?.map(Formula::Not)),
         RawFormula::Next(a) => Ok(operand(alloc, space, a)?.map(Formula::Next)),
         RawFormula::Eventually(a) => Ok(operand(alloc, space, a)?.map(Formula::Eventually)),
@@ -158,5 +161,6 @@ pub(crate) fn formula(
         RawFormula::ReleaseWithin(d, a, b) => {
             Ok(operands(alloc, space, a, b)?.map(|(a, b)| Formula::ReleaseWithin(*d, a, b)))
         }
+        RawFormula::All(..) | RawFormula::Exists(..) => Ok(None),
     }
 }

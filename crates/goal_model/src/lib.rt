@@ -12,6 +12,3 @@ mod value_index;
 
 pub use model::{Goal, Link, Model, NamedTrace, Property};
 pub use resolution::{ModelRefusal, law_of_resolution, resolve};
-
-#[cfg(test)]
-mod tests;

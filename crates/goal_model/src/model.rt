@@ -1,10 +1,12 @@
-//! Models: what the statements of a text declare, with every name looked up.
+//! Models: what the statements of a text declare, with every name looked up. Goals are known by
+//! their places, from 0, and statements by their numbers, from 1; whoever reads a model looks up no
+//! name.
 
 use state_space::{Name, Space};
 use temporal_logic::{Formula, Lasso};
 
 /// A domain property: it is taken to hold on every trace.
-#[derive(Debug, Drop)]
+#[derive(Drop)]
 pub struct Property {
     /// The number of its statement, from 1.
     pub statement: u32,
@@ -13,7 +15,7 @@ pub struct Property {
 }
 
 /// A goal.
-#[derive(Debug, Drop)]
+#[derive(Drop)]
 pub struct Goal {
     /// The number of its statement, from 1.
     pub statement: u32,
@@ -22,7 +24,7 @@ pub struct Goal {
 }
 
 /// What one statement says of goals. A goal is given by its place in the list of goals, from 0.
-#[derive(Debug, Drop)]
+#[derive(Drop)]
 pub enum Link {
     /// A goal follows from others, so the model says.
     Refine {
@@ -66,14 +68,14 @@ impl Link {
 }
 
 /// A trace of the model's variables that the text spells out.
-#[derive(Debug, Drop)]
+#[derive(Drop)]
 pub struct NamedTrace {
     pub name: Name,
     pub lasso: Lasso,
 }
 
 /// The variables, properties, goals, links and traces of a text, each in statement order.
-#[derive(Debug, Drop)]
+#[derive(Drop)]
 pub struct Model {
     pub space: Space,
     pub domains: Vec<Property>,

@@ -5,7 +5,7 @@ ghost use Rattle.state_space.specs.Ranges.{form_of, IsGoodRange};
 ghost use Rattle.state_space.specs.Spaces.{names, ranges, sizes};
 ghost use Rattle.temporal_logic.specs.Rows.{rows};
 ghost use Rattle.state_space.specs.declared.space.AddRefusal.TheVariants.{Memory as AddMemory};
-ghost use Rattle.model_text.specs.RawSeen.{raw_tree};
+ghost use Rattle.model_text.specs.RawView.{raw_tree};
 ghost use Rattle.model_text.specs.Statements.{StatementForm, statement_of, statements_of, settings_of, variable, domain, goal, refinement, trace};
 ghost use Rattle.goal_model.specs.Models.{ModelForm, model_of, goal_of, property_of, named_trace_of, TraceIsOver, IsWellFormed};
 ghost use Rattle.goal_model.specs.Names.{place_of};

@@ -1,4 +1,6 @@
-//! Written states, as value indexes of all variables.
+//! Written states, as value indexes of all variables that are declared so far: a variable that a
+//! state does not set has index 0. A variable that is set twice, a name that is no variable's, or a
+//! value outside the range makes it no state.
 
 ghost use Rattle.std.specs.Prelude.{◌≡◌, map, option_map, is_some, IfOk, bytes_eq};
 ghost use Rattle.std.specs.List.{list_all, list_any};

@@ -1,9 +1,10 @@
-//! Written values, as indexes of the values of a range.
+//! Written values, as indexes of the values of a range, from 0 in the order in which the range has
+//! them: `false` before `true`, names as they are listed, numbers from the lower end.
 
 ghost use Rattle.std.specs.Prelude.{◌≡◌, ◌<◌, ◌^◌, length, map, option_map, IfSome};
 ghost use Rattle.state_space.specs.Ranges.{form_of, size_of, span, IsGoodRange};
 ghost use Rattle.model_text.specs.RawTrees.{a_number};
-ghost use Rattle.model_text.specs.RawSeen.{written};
+ghost use Rattle.model_text.specs.RawView.{written};
 ghost use Rattle.goal_model.specs.Names.{place_of as place_in};
 ghost use Rattle.goal_model.specs.ValueIndexes.{index_in as index_of, set_with};
 

@@ -5,7 +5,7 @@ use Rattle.std.proofs.lemmas.Option.{slice_get-get_or}
 use Rattle.std.proofs.lemmas.List.Elements.{All-nil, All-cons}
 use Rattle.state_space.specs.Spaces.{sizes}
 use Rattle.temporal_logic.specs.Ltl.{Ltl}
-use Rattle.tableau_rules.specs.CertSeen.{cert_of}
+use Rattle.tableau_rules.specs.CertView.{cert_of}
 use Rattle.goal_model.specs.declared.model.Model.{Model}
 use Rattle.goal_model.specs.Models.{LinkForm, ModelForm, model_of, sizes_of}
 use Rattle.goal_model.specs.Demands.{complete_list}

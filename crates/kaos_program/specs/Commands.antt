@@ -4,6 +4,7 @@ use Rattle.std.specs.Global.{Global}
 use Rattle.kaos_program.specs.declared.command.Command.{Command}
 use Rattle.kaos_program.specs.declared.command.Command.TheVariants.{Check, Trace}
 
+-- how the command is asked for: one word
 abbrev pub word_of : Command → List ℕ
 word_of Check = codes "check"
 word_of Trace = codes "trace"

@@ -1,7 +1,7 @@
 -- Which evidence can be written over the variables of a space.
 use Rattle.std.specs.Prelude.{◌≡◌, ℕ, List, length, All}
 use Rattle.temporal_logic.specs.Lassos.{IsOfSpace}
-use Rattle.tableau_rules.specs.CertSeen.{cert_of}
+use Rattle.tableau_rules.specs.CertView.{cert_of}
 use Rattle.kaos_program.specs.declared.report.Evidence.{Evidence}
 use Rattle.kaos_program.specs.declared.report.Evidence.TheVariants.{Nothing, Elimination, Trace}
 

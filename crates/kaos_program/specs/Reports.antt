@@ -15,7 +15,7 @@ use Rattle.goal_model.specs.Demands.{complete_list}
 use Rattle.bound_unfolding.specs.CoreForm.{CoreForm}
 use Rattle.bound_unfolding.specs.Totals.{cores_of}
 use Rattle.tableau_rules.specs.Certificates.{IsValid}
-use Rattle.tableau_rules.specs.CertSeen.{cert_of}
+use Rattle.tableau_rules.specs.CertView.{cert_of}
 use Rattle.tableau_rules.specs.Graphs.{IsWithin, IsLarger}
 use Rattle.kaos_program.specs.Demands.{HasNoTrace}
 
@@ -56,24 +56,30 @@ pub record Reports (m : ModelForm) (report : Report) : Type 0 where
   pub budget : report.budget ≡ 20000
   pub entries : AreEntries m report.budget m.links report.entries.items
 
+-- the demand is met: no trace breaks it
 abbrev pub is_held : Verdict → Bool
 is_held Holds = true
 is_held _ = false
 
+-- the demand is not met: a trace is shown that breaks it
 abbrev pub is_failed : Verdict → Bool
 is_failed Fails = true
 is_failed _ = false
 
+-- nothing is said of the demand, whose tableau is over the budget
 abbrev pub is_withheld : Verdict → Bool
 is_withheld (Withheld number) = true
 is_withheld _ = false
 
+-- how many of the entries hold
 abbrev pub held_count : Report → ℕ
 held_count report = count_by (λ e. is_held e.verdict) report.entries.items
 
+-- how many of the entries fail
 abbrev pub failed_count : Report → ℕ
 failed_count report = count_by (λ e. is_failed e.verdict) report.entries.items
 
+-- of how many entries the verdict is withheld
 abbrev pub withheld_count : Report → ℕ
 withheld_count report = count_by (λ e. is_withheld e.verdict) report.entries.items
 

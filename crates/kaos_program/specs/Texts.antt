@@ -1,9 +1,9 @@
--- The texts that are written.
+-- The bytes that are written: reports, the truth of goals on traces, refusals, and the usage text.
 use Rattle.std.specs.Prelude.{ℕ, Bool, true, false, List, [], ◌∷◌, map, ◌++◌, length, codes, decimal, ◌==◌, if◌then◌else◌}
 use Rattle.std.specs.List.{flat_map}
 use Rattle.state_space.specs.Ranges.{RangeForm, size_of}
 use Rattle.state_space.specs.ValueTexts.{value_text}
-use Rattle.tableau_rules.specs.CertSeen.{cert_of}
+use Rattle.tableau_rules.specs.CertView.{cert_of}
 use Rattle.elimination_cert.specs.CertTexts.{cert_text}
 use Rattle.temporal_logic.specs.Rows.{rows}
 use Rattle.temporal_logic.specs.declared.lasso.Lasso.{Lasso}
@@ -27,10 +27,11 @@ use Rattle.model_text.specs.declared.text.TextRefusal.{TextRefusal}
 use Rattle.model_text.specs.declared.text.TextRefusal.TheVariants.{BadByte, Limit, Syntax}
 use Rattle.model_text.specs.declared.text.TextRefusal.TheVariants as text_refusals
 
+-- what is asked of a refinement, as a word
 abbrev pub kind_text : LabelKind → List ℕ
 kind_text Complete = codes "complete"
 
--- the words and names of a refinement's label
+-- ` NAME` of each name of a label
 abbrev pub names_text : List (List ℕ) → List ℕ
 names_text [] = []
 names_text (x ∷ xs) = codes " " ++ x ++ names_text xs
@@ -39,6 +40,7 @@ names_text (x ∷ xs) = codes " " ++ x ++ names_text xs
 abbrev pub label_text : Label → List ℕ
 label_text label = codes "refine " ++ decimal label.statement ++ names_text label.names.items ++ codes " " ++ kind_text label.kind
 
+-- `holds`, `fails`, or `withheld at BUDGET`
 abbrev pub verdict_text : Verdict → List ℕ
 verdict_text Holds = codes "holds"
 verdict_text Fails = codes "fails"
@@ -48,11 +50,12 @@ verdict_text (Withheld number) = codes "withheld at " ++ decimal number
 unfoldable pub setting_text : List ℕ → RangeForm → ℕ → List ℕ
 setting_text x range v = codes " " ++ x ++ codes "=" ++ value_text range v
 
--- the value of each variable
+-- ` NAME=VALUE` of each variable, in order
 abbrev pub values_text : List (List ℕ) → List RangeForm → List ℕ → List ℕ
 values_text (x ∷ xs) (range ∷ ranges) (v ∷ vs) = setting_text x range v ++ values_text xs ranges vs
 values_text _ _ _ = []
 
+-- `  state NAME=VALUE NAME=VALUE`, and a line feed
 abbrev pub state_text : List (List ℕ) → List RangeForm → List ℕ → List ℕ
 state_text names ranges values = codes "  state" ++ values_text names ranges values ++ codes "\n"
 
@@ -68,6 +71,7 @@ indented begins [] = []
 indented true (byte ∷ bytes) = codes "  " ++ byte ∷ indented (byte == 10) bytes
 indented false (byte ∷ bytes) = byte ∷ indented (byte == 10) bytes
 
+-- the lines below a verdict line, each after two blanks: those of a certificate, those of a lasso, or none
 abbrev pub evidence_text : List (List ℕ) → List RangeForm → Evidence → List ℕ
 evidence_text names ranges Nothing = []
 evidence_text names ranges (Elimination cert) = indented true (cert_text (map size_of ranges) (cert_of cert))
@@ -77,6 +81,7 @@ evidence_text names ranges (Trace l) = lasso_text names ranges l
 unfoldable pub entry_text : List (List ℕ) → List RangeForm → Entry → List ℕ
 entry_text names ranges e = label_text e.label ++ codes ": " ++ verdict_text e.verdict ++ codes "\n" ++ evidence_text names ranges e.evidence
 
+-- `total: H hold, F fail, W withheld`, and a line feed
 unfoldable pub total_text : ℕ → ℕ → ℕ → List ℕ
 total_text held failed withheld = codes "total: " ++ decimal held ++ codes " hold, " ++ decimal failed ++ codes " fail, " ++ decimal withheld ++ codes " withheld\n"
 
@@ -92,23 +97,25 @@ report_text names ranges report =
 abbrev pub truth_line : (trace goal : List ℕ) → Bool → List ℕ
 truth_line x g b = codes "trace " ++ x ++ codes " " ++ g ++ codes ": " ++ (if b then codes "true" else codes "false") ++ codes "\n"
 
--- a line for each goal
+-- a line for each goal, of the truth that the row has for it
 abbrev pub lines_on : List ℕ → List NamedFormula → List Bool → List ℕ
 lines_on x [] bs = []
 lines_on x (g ∷ gs) [] = []
 lines_on x (g ∷ gs) (b ∷ bs) = truth_line x g.name b ++ lines_on x gs bs
 
--- the lines of each trace
+-- the lines of each trace, which has a row of its own
 abbrev pub row_lines : List NamedFormula → List TraceForm → List (List Bool) → List ℕ
 row_lines goals [] rows = []
 row_lines goals (t ∷ ts) [] = []
 row_lines goals (t ∷ ts) (row ∷ rows) = lines_on t.name goals row ++ row_lines goals ts rows
 
+-- the whole output of `trace`: `kaos trace 1`, and a line for each trace and goal
 unfoldable pub truths_text : ModelForm → List (List Bool) → List ℕ
 truths_text m rows = codes "kaos trace 1\n" ++ row_lines m.goals m.traces rows
 
 -- ---- refusals
 
+-- the word by which a line of refusal names a limit
 abbrev pub limit_name : LimitKind → List ℕ
 limit_name Operators = codes "Operators"
 limit_name Statements = codes "Statements"
@@ -119,24 +126,27 @@ limit_name Number = codes "Number"
 limit_name Bound = codes "Bound"
 limit_name Depth = codes "Depth"
 
--- why a text has no statements; for want of memory nothing is written
+-- the line for bytes that spell no statements within the limits, where places of bytes are counted from 0; for want of memory nothing is written
 abbrev pub text_refusal : TextRefusal → List ℕ
 text_refusal (BadByte at) = codes "refused: bad byte at " ++ decimal at ++ codes "\n"
 text_refusal (Limit kind) = codes "refused: limit " ++ limit_name kind ++ codes "\n"
 text_refusal (Syntax at) = codes "refused: syntax at byte " ++ decimal at ++ codes "\n"
 text_refusal text_refusals.Memory = []
 
+-- `refused: statement NUMBER: KIND`, and a line feed; statements are counted from 1
 abbrev pub statement_refusal : ℕ → List ℕ → List ℕ
 statement_refusal number kind = codes "refused: statement " ++ decimal number ++ codes ": " ++ kind ++ codes "\n"
 
--- why statements make no model; for want of memory nothing is written
+-- the line for statements that make no model; for want of memory nothing is written
 abbrev pub model_refusal : ModelRefusal → List ℕ
 model_refusal (NotBuilt number) = statement_refusal number (codes "NotBuilt")
 model_refusal (Unresolved number) = statement_refusal number (codes "Unresolved")
 model_refusal model_refusals.Memory = []
 
+-- what is written for words that are no command
 abbrev pub usage_text : List ℕ
 usage_text = codes "usage: kaos check\n       kaos trace\n"
 
+-- the line for a text of over 1,048,576 bytes, of which no token is read
 abbrev pub too_long_text : List ℕ
 too_long_text = codes "refused: longer than 1048576 bytes\n"

@@ -1,4 +1,4 @@
--- The truth of goals on traces.
+-- When truth values are those of the goals of a model on its traces, and the status that they give.
 use Rattle.std.specs.Prelude.{ℕ, ◌↔◌, Bool, List, [], ◌∷◌, IsTrue, if◌then◌else◌}
 use Rattle.std.specs.List.{list_all}
 use Rattle.temporal_logic.specs.Truth.{Trace, Truth}
@@ -19,6 +19,7 @@ AreTruthRows goals (t ∷ ts) (row ∷ rows) = AreTruthsOn (from_lists t.prefix 
 AreTruthRows goals [] (row ∷ rows) = ⊥
 AreTruthRows goals (t ∷ ts) [] = ⊥
 
+-- for each trace of the model a row, with the truth of each goal at the start of that trace
 abbrev pub AreTruths : ModelForm → List (List Bool) → Type 0
 AreTruths m rows = AreTruthRows m.goals m.traces rows
 

@@ -27,7 +27,7 @@ pub(crate) const MOST_BYTES: usize = 1_048_576;
 
 /// What is due to be written, and the status if it is.
 #[derive(Drop)]
-pub(crate) struct Answer {
+pub(crate) struct Due {
     pub(crate) status: u8,
     pub(crate) report: Option<Report>,
     pub(crate) output: Vec<u8>,
@@ -42,10 +42,10 @@ enum Reading {
     Refused(Vec<u8>),
 }
 
-fn refused(line: Vec<u8>) -> Answer
+fn refused(line: Vec<u8>) -> Due
     ensures refused { (result.status ≡ 2) × (result.report ≡ None) × (result.output.items ≡ line.items) }
 {
-    Answer {
+    Due {
         status: 2,
         report: None,
         output: line,
@@ -81,7 +81,7 @@ fn status_of(report: &Report) -> u8
 }
 
 // The report on a model.
-fn check<A: Answerer>(alloc: Global, answerer: &A, model: &Model) -> Result<Answer, Memory>
+fn check<A: Answerer>(alloc: Global, answerer: &A, model: &Model) -> Result<Due, Memory>
     requires answerable { All (IsAnswerable (model_of model.now)) (model_of model.now).links }
     requires well_formed { IsWellFormed (model_of model.now) }
     ensures answered { (bytes : List ℕ) (ss : List StatementForm) → IsAccepted bytes ss (model_of model.now)
@@ -90,7 +90,7 @@ fn check<A: Answerer>(alloc: Global, answerer: &A, model: &Model) -> Result<Answ
 {
     let report = report(alloc, answerer, model)?;
     let output = report_text(alloc, &model.space, &report)?;
-    Ok(Answer {
+    Ok(Due {
         status: status_of(&report),
         report: Some(report),
         output,
@@ -115,7 +115,7 @@ fn status_of_truths(rows: &[Vec<bool>]) -> u8
 }
 
 // The truth of each goal on each trace of a model.
-fn trace(alloc: Global, model: &Model) -> Result<Answer, Memory>
+fn trace(alloc: Global, model: &Model) -> Result<Due, Memory>
     requires well_formed { IsWellFormed (model_of model.now) }
     ensures answered { (bytes : List ℕ) (ss : List StatementForm) → IsAccepted bytes ss (model_of model.now)
         → IfOk result (λ a. Answers bytes Command.Trace a.status a.report a.output.items) }
@@ -123,7 +123,7 @@ fn trace(alloc: Global, model: &Model) -> Result<Answer, Memory>
 {
     let rows = truths(alloc, model)?;
     let output = truths_text(alloc, model, &rows)?;
-    Ok(Answer {
+    Ok(Due {
         status: status_of_truths(&rows),
         report: None,
         output,
@@ -136,7 +136,7 @@ pub(crate) fn answer_to<A: Answerer>(
     answerer: &A,
     command: Command,
     bytes: &[u8],
-) -> Result<Answer, Memory>
+) -> Result<Due, Memory>
     requires { length bytes.now ≤ MOST_BYTES }
     ensures answered { IfOk result (λ a. Answers bytes.now command a.status a.report a.output.items) }
     ensures status { IfOk result (λ a. (a.status < 3) ⊎ (a.status ≡ 6)) }

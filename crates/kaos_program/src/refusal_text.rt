@@ -1,12 +1,13 @@
-//! The lines that say why a text is refused.
+//! The lines that say why a text is refused: one line each, for whoever edits the text, with the
+//! place of a byte, from 0, or the number of a statement, from 1. Their bytes are changed here, in
+//! specs/Texts.antt and in docs/LANGUAGE.md.
 
 ghost use Rattle.std.specs.Prelude.{◌≡◌, ◌++◌, codes, decimal, IfOk};
 ghost use Rattle.kaos_program.specs.Texts.{limit_name as limit_name_of, text_refusal as text_refusal_of, model_refusal as model_refusal_of, statement_refusal as statement_refusal_of};
 
-use crate::text::{put, put_number};
 use goal_model::ModelRefusal;
 use model_text::{LimitKind, TextRefusal};
-use source_sink::Memory;
+use source_sink::{Memory, put, put_decimal};
 use std::alloc::Global;
 
 fn limit_name(kind: LimitKind) -> &'static [u8]
@@ -30,7 +31,7 @@ fn place_line(alloc: Global, front: &[u8], at: u64) -> Result<Vec<u8>, Memory>
 {
     let mut line = Vec::new(alloc);
     put(&mut line, front)?;
-    put_number(&mut line, at)?;
+    put_decimal(&mut line, at)?;
     put(&mut line, b"\n")?;
     Ok(line)
 }
@@ -64,7 +65,7 @@ pub(crate) fn statement_refusal(alloc: Global, number: u32, kind: &[u8]) -> Resu
 {
     let mut line = Vec::new(alloc);
     put(&mut line, b"refused: statement ")?;
-    put_number(&mut line, number as u64)?;
+    put_decimal(&mut line, number as u64)?;
     put(&mut line, b": ")?;
     put(&mut line, kind)?;
     put(&mut line, b"\n")?;

@@ -1,4 +1,5 @@
-//! Reports: an answer to each demand of a model, with its evidence.
+//! Reports: an answer to each demand of a model, with its evidence, in the order of the links. When
+//! one is right, specs/Reports.antt says; a further kind of demand is a variant of `LabelKind`.
 
 use state_space::Name;
 use tableau_rules::Cert;

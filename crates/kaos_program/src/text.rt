@@ -1,4 +1,6 @@
-//! The texts of reports, in the order in which a report has its lines.
+//! The texts of reports, in the order in which a report has its lines, and what other texts need to
+//! be put together. The bytes are those of specs/Texts.antt, which every reader of a report relies
+//! on.
 
 ghost use Rattle.std.specs.Prelude.{◌≡◌, ◌<◌, ◌++◌, true, decimal, All, OnOk, IfOk};
 ghost use Rattle.std.specs.List.{flat_map};
@@ -13,8 +15,7 @@ ghost use Rattle.kaos_program.specs.Texts.{names_text, label_text, verdict_text,
 
 use crate::report::{Entry, Evidence, Label, LabelKind, Report, Verdict};
 use elimination_cert::cert_text;
-use itoa::Buffer;
-use source_sink::Memory;
+use source_sink::{Memory, put, put_decimal};
 use state_space::{Name, Range, Space, State, VarId};
 use std::alloc::Global;
 use temporal_logic::Lasso;
@@ -25,22 +26,6 @@ pub(crate) struct Totals {
     pub(crate) held: u64,
     pub(crate) failed: u64,
     pub(crate) withheld: u64,
-}
-
-/// Bytes behind those that are there.
-pub(crate) fn put(out: &mut Vec<u8>, bytes: &[u8]) -> Result<(), Memory>
-    ensures { OnOk result (out.new.items ≡ out.old.items ++ bytes.now) }
-{
-    out.extend_from_slice(bytes)?;
-    Ok(())
-}
-
-/// A number in decimal behind the bytes that are there.
-pub(crate) fn put_number(out: &mut Vec<u8>, n: u64) -> Result<(), Memory>
-    ensures { OnOk result (out.new.items ≡ out.old.items ++ decimal n) }
-{
-    let mut buffer = Buffer::new();
-    put(out, buffer.format(n).as_bytes())
 }
 
 fn put_names(out: &mut Vec<u8>, names: &[Name]) -> Result<(), Memory>
@@ -57,7 +42,7 @@ fn put_label(out: &mut Vec<u8>, label: &Label) -> Result<(), Memory>
     ensures { OnOk result (out.new.items ≡ out.old.items ++ label_text label.now) }
 {
     put(out, b"refine ")?;
-    put_number(out, label.statement as u64)?;
+    put_decimal(out, label.statement as u64)?;
     put_names(out, &label.names)?;
     match label.kind {
         LabelKind::Complete => put(out, b" complete"),
@@ -109,9 +94,9 @@ fn put_lasso(out: &mut Vec<u8>, space: &Space, lasso: &Lasso) -> Result<(), Memo
     ensures { OnOk result (out.new.items ≡ out.old.items ++ lasso_text (names space.now) (ranges space.now) lasso.now) }
 {
     put(out, b"  lasso ")?;
-    put_number(out, lasso.prefix.len() as u64)?;
+    put_decimal(out, lasso.prefix.len() as u64)?;
     put(out, b" ")?;
-    put_number(out, lasso.cycle.len() as u64)?;
+    put_decimal(out, lasso.cycle.len() as u64)?;
     put(out, b"\n")?;
     put_states(out, space, &lasso.prefix)?;
     put_states(out, space, &lasso.cycle)
@@ -156,7 +141,7 @@ fn put_verdict(out: &mut Vec<u8>, verdict: Verdict) -> Result<(), Memory>
         Verdict::Fails => put(out, b"fails"),
         Verdict::Withheld(number) => {
             put(out, b"withheld at ")?;
-            put_number(out, number as u64)
+            put_decimal(out, number as u64)
         }
     }
 }
@@ -214,11 +199,11 @@ fn put_total(out: &mut Vec<u8>, totals: Totals) -> Result<(), Memory>
     ensures { OnOk result (out.new.items ≡ out.old.items ++ total_text totals.held totals.failed totals.withheld) }
 {
     put(out, b"total: ")?;
-    put_number(out, totals.held)?;
+    put_decimal(out, totals.held)?;
     put(out, b" hold, ")?;
-    put_number(out, totals.failed)?;
+    put_decimal(out, totals.failed)?;
     put(out, b" fail, ")?;
-    put_number(out, totals.withheld)?;
+    put_decimal(out, totals.withheld)?;
     put(out, b" withheld\n")
 }
 
@@ -230,7 +215,7 @@ pub(crate) fn report_text(alloc: Global, space: &Space, report: &Report) -> Resu
 {
     let mut out = Vec::new(alloc);
     put(&mut out, b"kaos report 1 budget ")?;
-    put_number(&mut out, report.budget as u64)?;
+    put_decimal(&mut out, report.budget as u64)?;
     put(&mut out, b"\n")?;
     put_entries(alloc, &mut out, space, &report.entries)?;
     put_total(&mut out, counts(report))?;

@@ -1,4 +1,5 @@
-//! The truth of each goal on each trace of a model.
+//! The truth of each goal at the start of each trace of a model, for `trace`: it is looked at on
+//! the trace itself, so that no tableau and no budget plays a part.
 
 ghost use Rattle.std.specs.Prelude.{◌≡◌, ◌↔◌, map, IsTrue, IfOk};
 ghost use Rattle.state_space.specs.Spaces.{ranges, sizes};

@@ -1,12 +1,12 @@
-//! The text of the truth of goals on traces.
+//! The text of the truth of goals on traces: a first line, and then one for each trace and goal,
+//! traces and goals in statement order. The bytes are those of specs/Texts.antt.
 
 ghost use Rattle.std.specs.Prelude.{◌≡◌, ◌++◌, map, OnOk, IfOk};
 ghost use Rattle.goal_model.specs.Models.{model_of, goal_of, named_trace_of};
 ghost use Rattle.kaos_program.specs.Texts.{truth_line, lines_on, row_lines, truths_text as text_of_truths};
 
-use crate::text::put;
 use goal_model::{Goal, Model, NamedTrace};
-use source_sink::Memory;
+use source_sink::{Memory, put};
 use state_space::Name;
 use std::alloc::Global;
 
@@ -20,6 +20,7 @@ fn put_line(out: &mut Vec<u8>, trace: &Name, goal: &Name, truth: bool) -> Result
     put(out, if truth { b": true\n" } else { b": false\n" })
 }
 
+// The row has a truth value for each goal; past the shorter of the two there is nothing to write.
 fn put_lines(out: &mut Vec<u8>, trace: &Name, goals: &[Goal], row: &[bool]) -> Result<(), Memory>
     ensures { OnOk result (out.new.items ≡ out.old.items ++ lines_on trace.now (map goal_of goals.now) row.now) }
 {
@@ -30,6 +31,7 @@ fn put_lines(out: &mut Vec<u8>, trace: &Name, goals: &[Goal], row: &[bool]) -> R
     Ok(())
 }
 
+// There is a row for each trace, in order; past the shorter of the two there is nothing to write.
 fn put_rows(
     out: &mut Vec<u8>,
     goals: &[Goal],

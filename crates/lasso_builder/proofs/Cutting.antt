@@ -7,7 +7,7 @@ use Rattle.std.proofs.Math.Nat.{mod_self}
 use Rattle.state_space.specs.Members.{full_of}
 use Rattle.bound_unfolding.specs.CoreForm.{CoreForm}
 use Rattle.formula_table.specs.Closures.{closure_of, formula_at}
-use Rattle.tableau_rules.specs.declared.link.Link.{Link}
+use Rattle.tableau_rules.specs.declared.edges.Edges.{Edges}
 use Rattle.tableau_rules.specs.Nodes.{NodeForm, kids, root_of}
 use Rattle.tableau_rules.specs.Certificates.{is_until}
 use Rattle.tableau_rules.specs.Graphs.{GraphNodeForm, IsWhole}
@@ -16,15 +16,11 @@ use Rattle.tableau_rules.specs.Walks.{no_node, node_at, Settles, IsClosedWalk}
 use Rattle.lasso_builder.specs.PlaceWalks.{IsWalk, IsClosed, stem_of, loop_of}
 use Rattle.lasso_builder.specs.GraphPlaces.{node_in, nodes_at}
 use Rattle.lasso_builder.proofs.GraphSets.{held_node, kid_in, fulfils_in, not_carried}
+use Rattle.tableau_rules.proofs.Closing.{until_below}
 
 -- the places are places of the graph
-pub inside_graph : (cores : List CoreForm) (graph : List GraphNodeForm) (links : List Link) (alive : List Bool) (walk : List ℕ) → IsLinked cores graph links → IsWalk links alive walk → All (λ p. p < length graph) walk
+pub inside_graph : (cores : List CoreForm) (graph : List GraphNodeForm) (links : List Edges) (alive : List Bool) (walk : List ℕ) → IsLinked cores graph links → IsWalk links alive walk → All (λ p. p < length graph) walk
 inside_graph cores graph links alive walk linked w = λ k d l. let i = (w.living k l).0 in let s = linked.size in let e = get_or_default walk k 0 d l in omega (arith, i, s, e)
-
-until_inside : (closure : List CoreForm) (e : ℕ) → IsTrue (is_until (formula_at closure e)) → e < length closure
-until_inside [] e h = cc
-until_inside (c ∷ cs) zero h = omega arith
-until_inside (c ∷ cs) (suc e) h = let r = until_inside cs e h in omega (arith, r)
 
 at_end : (x y : ℕ) → x ≡ y → 0 < y → x % y ≡ 0
 at_end x y e h = ap (λ z. z % y) e ∙ mod_self y
@@ -84,7 +80,7 @@ module _ (graph : List GraphNodeForm) (walk : List ℕ) (start : ℕ) (inside : 
         ]
       ]
 
-module _ (sizes : List ℕ) (cores : List CoreForm) (graph : List GraphNodeForm) (links : List Link) (alive : List Bool) (walk : List ℕ) (start : ℕ) (whole : IsWhole sizes cores graph) (linked : IsLinked cores graph links)
+module _ (sizes : List ℕ) (cores : List CoreForm) (graph : List GraphNodeForm) (links : List Edges) (alive : List Bool) (walk : List ℕ) (start : ℕ) (whole : IsWhole sizes cores graph) (linked : IsLinked cores graph links)
     (c : IsClosed links (carries_at (closure_of cores) graph) (fulfils_at links) (length (closure_of cores)) alive walk start) where
   abbrev closure : List CoreForm
   closure = closure_of cores
@@ -106,7 +102,7 @@ module _ (sizes : List ℕ) (cores : List CoreForm) (graph : List GraphNodeForm)
 
   settled : (e : ℕ) → IsTrue (is_until (formula_at closure e)) → (k : ℕ) × (start ≤ k) × (k + 1 < length walk) × Settled e k
   settled e u =
-      let s = c.served e (until_inside closure e u) in
+      let s = c.served e (until_below closure e u) in
       let i = s.inside in
       let a = s.after in
       elim s.how [

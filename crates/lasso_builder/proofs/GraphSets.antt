@@ -6,7 +6,7 @@ use Rattle.std.proofs.lemmas.Option.{slice_get_within, get_or_from_slice_get, sl
 use Rattle.state_space.specs.Members.{full_of}
 use Rattle.bound_unfolding.specs.CoreForm.{CoreForm}
 use Rattle.formula_table.specs.Closures.{closure_of, formula_at}
-use Rattle.tableau_rules.specs.declared.link.Link.{Link}
+use Rattle.tableau_rules.specs.declared.edges.Edges.{Edges}
 use Rattle.tableau_rules.specs.Nodes.{NodeForm, carries, kids}
 use Rattle.tableau_rules.specs.Certificates.{is_until}
 use Rattle.tableau_rules.specs.Graphs.{GraphNodeForm, nodes_in, PlacesHold, IsWhole}
@@ -17,7 +17,8 @@ use Rattle.tableau_rules.specs.Levels.{here as comes_here, later as comes_later}
 use Rattle.tableau_rules.specs.Walks.{no_node, FulfilsIn}
 use Rattle.lasso_builder.specs.GraphPlaces.{node_in, nodes_at}
 use Rattle.tableau_rules.proofs.Linked.{no_graph_node}
-use Rattle.tableau_rules.proofs.PlaceTests.{and_is, no_both}
+use Rattle.tableau_rules.proofs.PlaceTests.{no_both}
+use Rattle.std.proofs.lemmas.Bool.{and_parts}
 
 -- ---- places and nodes
 among_of : (xs : List ℕ) (k x : ℕ) → k < length xs → get_or xs k x ≡ x → Among x xs
@@ -54,13 +55,13 @@ held_nodes graph (p ∷ ps) (n ∷ ns) h = ap₂ (λ m ms. m ∷ ms) (held_node 
 -- ---- whether an until is carried
 pub carried_at : (closure : List CoreForm) (graph : List GraphNodeForm) (e p : ℕ) → carries_at closure graph e p ≡ true → IsTrue (is_until (formula_at closure e)) × IsTrue (carries e (node_in graph p))
 unfolding carries_at
-carried_at closure graph e p h = and_is (is_until (formula_at closure e)) (carries e (node_in graph p)) h
+carried_at closure graph e p h = and_parts (is_until (formula_at closure e)) (carries e (node_in graph p)) h
 
 pub not_carried : (closure : List CoreForm) (graph : List GraphNodeForm) (e p : ℕ) → IsTrue (is_until (formula_at closure e)) → carries_at closure graph e p ≡ false → ¬ (IsTrue (carries e (node_in graph p)))
 unfolding carries_at
 not_carried closure graph e p u h = λ c. no_both (is_until (formula_at closure e) && carries e (node_in graph p)) (rw (u, c) refl) h
 
-module _ (cores : List CoreForm) (graph : List GraphNodeForm) (links : List Link) (linked : IsLinked cores graph links) where
+module _ (cores : List CoreForm) (graph : List GraphNodeForm) (links : List Edges) (linked : IsLinked cores graph links) where
   abbrev closure : List CoreForm
   closure = closure_of cores
 

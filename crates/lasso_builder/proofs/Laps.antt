@@ -1,11 +1,11 @@
 -- Laps, and that what they served is on the loop that they close.
 use Rattle.std.proofs.Common.{◌≡◌, ℕ, zero, suc, ◌+◌, ◌-◌, ◌<◌, List, [], ◌∷◌, length, get_or, set, Bool, sym, ap, subst, ◌∙◌, inl, inr, arith, length-set, get_or-set_same, get_or-set_other}
 use Rattle.std.proofs.lemmas.Bool.{cases_eq}
-use Rattle.tableau_rules.specs.declared.link.Link.{Link}
+use Rattle.tableau_rules.specs.declared.edges.Edges.{Edges}
 use Rattle.lasso_builder.specs.PlaceWalks.{IsServed, Leg, Lap, IsLapped, unbegun}
 use Rattle.lasso_builder.proofs.Legs.{extends_both, served_more, served_sooner}
 
-pub lap_leg : (links : List Link) (carrying fulfilling : ℕ → ℕ → Bool) (e : ℕ) (alive : List Bool) (old mid new : List ℕ) → Lap links carrying fulfilling e alive old mid
+pub lap_leg : (links : List Edges) (carrying fulfilling : ℕ → ℕ → Bool) (e : ℕ) (alive : List Bool) (old mid new : List ℕ) → Lap links carrying fulfilling e alive old mid
     → Leg links carrying fulfilling e alive mid new → Lap links carrying fulfilling (e + 1) alive old new
 lap_leg links carrying fulfilling e alive old mid new lap leg =
     let m = lap.more in
@@ -29,7 +29,7 @@ unbegun_less (suc y ∷ begun) zero (suc x) h z p = absurd (omega arith)
 unbegun_less (zero ∷ begun) (suc k) (suc x) h z p = let r = unbegun_less begun k (suc x) (omega arith) z p in omega (arith, r)
 unbegun_less (suc y ∷ begun) (suc k) (suc x) h z p = unbegun_less begun k (suc x) (omega arith) z p
 
-module _ (links : List Link) (carrying fulfilling : ℕ → ℕ → Bool) (untils : ℕ) (alive : List Bool) where
+module _ (links : List Edges) (carrying fulfilling : ℕ → ℕ → Bool) (untils : ℕ) (alive : List Bool) where
   -- what is known of a place at which a lap began when the walk was this long
   abbrev IsLap : List ℕ → ℕ → ℕ → Type 0
   IsLap walk p long = (long < length walk) × (get_or walk (long - 1) 0 ≡ p) × ((e : ℕ) → e < untils → IsServed links carrying fulfilling e walk (long - 1))

@@ -3,7 +3,7 @@ use Rattle.std.proofs.Common.{◌≡◌, ◌≢◌, ℕ, ◌<◌, ◌≤◌, ◌
 use Rattle.std.specs.declared.alloc.Global.{Global}
 use Rattle.std.proofs.lemmas.List.{get_or_append_left, get_or_at}
 use Rattle.std.proofs.lemmas.Bool.{cases_eq, cases_lt}
-use Rattle.tableau_rules.specs.declared.link.Link.{Link}
+use Rattle.tableau_rules.specs.declared.edges.Edges.{Edges}
 use Rattle.tableau_rules.specs.Links.{Among, IsHead, kids_at, InRange}
 use Rattle.tableau_rules.specs.Levels.{HasLevels, Way, Alive, alive_at, head_is, some_is, levelled_at, can_go, ComesTo, here, later, PlacesSurvive}
 use Rattle.lasso_builder.specs.LevelTables.{LevelsFor, AllLevels, IsLevelFor}
@@ -36,7 +36,7 @@ some_same p q (x ∷ []) h = h x
 some_same p q (x ∷ y ∷ ys) h = ap₂ (λ a b. a || b) (h x) (some_same p q (y ∷ ys) h)
 
 -- where a place fulfils in no living kid, a kid has a lower level
-pub has_lower : (links : List Link) (fulfilling : ℕ → Bool) (alive : List Bool) (levels : List ℕ) (k : ℕ) → Way links fulfilling alive levels k
+pub has_lower : (links : List Edges) (fulfilling : ℕ → Bool) (alive : List Bool) (levels : List ℕ) (k : ℕ) → Way links fulfilling alive levels k
     → (fulfilling k ≡ false) ⊎ (head_is (alive_at alive) (kids_at links k) ≡ false) → some_is (levelled_at alive levels (get_or levels k 0)) (kids_at links k) ≡ true
 has_lower links fulfilling alive levels k way no_way =
     elim way.1 [
@@ -52,12 +52,12 @@ has_lower links fulfilling alive levels k way no_way =
 at_least : (x y : ℕ) → (y ≤ x → ⊥) → x < y
 at_least x y h = elim (cases_lt x y) [ inl a ↦ a | inr b ↦ absurd (h b) ]
 
-starts : (links : List Link) (fulfilling : ℕ → Bool) (alive : List Bool) (k : ℕ) → ComesTo links fulfilling alive k → Alive alive k
+starts : (links : List Edges) (fulfilling : ℕ → Bool) (alive : List Bool) (k : ℕ) → ComesTo links fulfilling alive k → Alive alive k
 starts links fulfilling alive k (here _ p a f i b) = a
 starts links fulfilling alive k (later _ p a i c) = a
 
 -- a living place without a level fulfils in no living kid, and no living kid has a level
-module _ (links : List Link) (fulfilling : ℕ → Bool) (alive : List Bool) (levels : List ℕ) (k : ℕ) (stuck : can_go links fulfilling alive levels k ≡ false) (living : Alive alive k) where
+module _ (links : List Edges) (fulfilling : ℕ → Bool) (alive : List Bool) (levels : List ℕ) (k : ℕ) (stuck : can_go links fulfilling alive levels k ≡ false) (living : Alive alive k) where
   abbrev fulfils : Bool
   fulfils = fulfilling k && head_is (alive_at alive) (kids_at links k)
 
@@ -82,7 +82,7 @@ module _ (links : List Link) (fulfilling : ℕ → Bool) (alive : List Bool) (le
       let b = is_below (get_or levels p 0) (length links) l in
       no_both lower (some_from (levelled_at alive levels (length links)) (kids_at links k) p i (rw (a, b) refl)) neither.1
 
-pub has_level : (links : List Link) (fulfilling : ℕ → Bool) (alive : List Bool) (levels : List ℕ) → InRange links → HasLevels links fulfilling alive levels
+pub has_level : (links : List Edges) (fulfilling : ℕ → Bool) (alive : List Bool) (levels : List ℕ) → InRange links → HasLevels links fulfilling alive levels
     → (k : ℕ) → k < length links → ComesTo links fulfilling alive k → get_or levels k 0 < length links
 has_level links fulfilling alive levels range h k kl (here _ p a f i b) =
     at_least (get_or levels k 0) (length links) (λ le. no_fulfilment links fulfilling alive levels k (h.whole k kl le) a f p i b)
@@ -90,7 +90,7 @@ has_level links fulfilling alive levels range h k kl (later _ p a i c) =
     let r = has_level links fulfilling alive levels range h p (each_at (λ z. z < length links) (kids_at links k) p (range k kl) i) c in
     at_least (get_or levels k 0) (length links) (λ le. no_lower links fulfilling alive levels k (h.whole k kl le) a p i (starts links fulfilling alive p c) r)
 
-pub levels_of : (links : List Link) (carrying fulfilling : ℕ → ℕ → Bool) (alive : List Bool) (e : ℕ) (levels : List ℕ) → InRange links → PlacesSurvive links carrying fulfilling alive
+pub levels_of : (links : List Edges) (carrying fulfilling : ℕ → ℕ → Bool) (alive : List Bool) (e : ℕ) (levels : List ℕ) → InRange links → PlacesSurvive links carrying fulfilling alive
     → HasLevels links (fulfilling e) alive levels → LevelsFor links carrying fulfilling alive e levels
 levels_of links carrying fulfilling alive e levels range s h = λ k kl a c. (h, has_level links (fulfilling e) alive levels range h k kl (s.settled.fair e k kl a c))
 
@@ -99,7 +99,7 @@ pub if_ok : {X E : Type 0} (P Q : X → Type 0) (r : Result X E) → ((x : X) �
 if_ok P Q (Ok x) f h = f x h
 if_ok P Q (Err e) f h = h
 
-pub levels_more : (links : List Link) (carrying fulfilling : ℕ → ℕ → Bool) (alive : List Bool) (table : List (Vec ℕ Global)) (v : Vec ℕ Global) (e : ℕ) → length table ≡ e
+pub levels_more : (links : List Edges) (carrying fulfilling : ℕ → ℕ → Bool) (alive : List Bool) (table : List (Vec ℕ Global)) (v : Vec ℕ Global) (e : ℕ) → length table ≡ e
     → AllLevels links carrying fulfilling alive table → LevelsFor links carrying fulfilling alive e v.items → AllLevels links carrying fulfilling alive (table ++ v ∷ [])
 levels_more links carrying fulfilling alive table v e size all one = λ d w dl q.
     let n = length-append table (v ∷ []) in
@@ -109,7 +109,7 @@ levels_more links carrying fulfilling alive table v e size all one = λ d w dl q
     ]
 
 -- ---- a level is lowered to another that the place can take
-module _ (links : List Link) (fulfilling : ℕ → Bool) (alive : List Bool) (levels : List ℕ) (k level : ℕ) (h : HasLevels links fulfilling alive levels) (kl : k < length links)
+module _ (links : List Edges) (fulfilling : ℕ → Bool) (alive : List Bool) (levels : List ℕ) (k level : ℕ) (h : HasLevels links fulfilling alive levels) (kl : k < length links)
     (l : get_or levels k 0 < length links) (less : level < get_or levels k 0) where
   abbrev lowered_levels : List ℕ
   lowered_levels = set levels k level

@@ -17,6 +17,7 @@ use Rattle.tableau_rules.specs.Walks.{is_empty, least_index, states, IsClosedWal
 use Rattle.tableau_rules.proofs.WalkAnswers.{walk_law}
 use Rattle.lasso_builder.specs.PlaceWalks.{stem_of, loop_of}
 use Rattle.lasso_builder.specs.GraphPlaces.{node_in, nodes_at}
+use Rattle.tableau_rules.proofs.WalkStates.{states-append}
 
 states_one : (n : NodeForm) (ns : List NodeForm) → states (n ∷ ns) ≡ states (n ∷ []) ++ states ns
 states_one n ns = choose (is_empty n.todo) (map least_index n.now) (states ns)
@@ -24,11 +25,6 @@ states_one n ns = choose (is_empty n.todo) (map least_index n.now) (states ns)
     choose : (b : Bool) (row : List ℕ) (rest : List (List ℕ)) → cond b (row ∷ rest) rest ≡ cond b (row ∷ []) [] ++ rest
     choose true row rest = refl
     choose false row rest = refl
-
-states_append : (ms ns : List NodeForm) → states (ms ++ ns) ≡ states ms ++ states ns
-states_append [] ns = refl
-states_append (m ∷ ms) ns =
-    states_one m (ms ++ ns) ∙ ap (λ z. states (m ∷ []) ++ z) (states_append ms ns) ∙ sym (append_assoc (states (m ∷ [])) (states ms) (states ns)) ∙ ap (λ z. z ++ states ns) (sym (states_one m ms))
 
 -- the rows after one place more
 pub rows_more : (graph : List GraphNodeForm) (places : List ℕ) (k : ℕ) (n : NodeForm) (old new : List (List ℕ)) → k < length places → n ≡ node_in graph (get_or places k 0)
@@ -38,12 +34,7 @@ rows_more graph places k n old new l e before after =
     let longer : nodes_at graph (take (k + 1) places) ≡ nodes_at graph (take k places) ++ n ∷ [] =
     ap (λ z. nodes_at graph (take z places)) one ∙ ap (nodes_at graph) (take-suc places k 0 l) ∙ map-append (node_in graph) (take k places) (get_or places k 0 ∷ []) ∙ ap (λ z. nodes_at graph (take k places) ++ z ∷ []) (sym e)
     in
-    after ∙ ap (λ z. z ++ states (n ∷ [])) before ∙ sym (states_append (nodes_at graph (take k places)) (n ∷ [])) ∙ ap states (sym longer)
-
-pub rows_fit : (sizes : List ℕ) (along : List State) → All (ValuesFit sizes) (rows along) → AllFit sizes along
-rows_fit sizes along fit = λ k d l.
-    let long = length-map along (λ (s : State). s.values.items) in
-    subst (ValuesFit sizes) (get_or-map (λ (s : State). s.values.items) along k d d.values.items l) (fit k d.values.items (omega (arith, long, l)))
+    after ∙ ap (λ z. z ++ states (n ∷ [])) before ∙ sym (states-append (nodes_at graph (take k places)) (n ∷ [])) ∙ ap states (sym longer)
 
 few_values : (space : Space) → All (λ size. size ≤ 64) (sizes space)
 few_values space = λ k d l. subst (λ z. z ≤ 64) (get_or_default (sizes space) k 0 d l) (good_size space k l).1

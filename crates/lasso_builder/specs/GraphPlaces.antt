@@ -1,4 +1,4 @@
--- The nodes at places of a graph.
+-- The nodes that places of a graph stand for; a place past the end has a node that asks for nothing.
 use Rattle.std.specs.Prelude.{ℕ, [], List, map, slice_index_or}
 use Rattle.tableau_rules.specs.Nodes.{NodeForm}
 use Rattle.tableau_rules.specs.Graphs.{GraphNodeForm}

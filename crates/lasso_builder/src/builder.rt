@@ -1,10 +1,12 @@
-//! The builder of lassos.
+//! The builder of lassos, for whoever has a surviving set and wants a trace: a closed walk through
+//! the set, and the states along it. It joins the other files; the lasso is of the space and meets
+//! the query.
 
 ghost use Rattle.std.specs.Prelude.{ℕ, ◌+◌, ◌<◌, ◌^◌, List, IfOk, All, length};
 ghost use Rattle.state_space.specs.Spaces.{sizes};
 ghost use Rattle.temporal_logic.specs.Lassos.{trace_of, IsOfSpace};
-ghost use Rattle.tableau_rules.specs.QuerySeen.{cores_in};
-ghost use Rattle.tableau_rules.specs.GraphSeen.{graph_of};
+ghost use Rattle.tableau_rules.specs.QueryView.{cores_in};
+ghost use Rattle.tableau_rules.specs.GraphView.{graph_of};
 ghost use Rattle.tableau_rules.specs.Graphs.{IsWhole};
 ghost use Rattle.tableau_rules.specs.Surviving.{Survives};
 ghost use Rattle.tableau_rules.specs.Queries.{IsOver, MeetsAll};

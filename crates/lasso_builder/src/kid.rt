@@ -1,4 +1,6 @@
-//! The kid that a walk goes on to. Each answers one that is alive.
+//! The kid that a walk goes on to: the first, some one, or the one with the lower level. Each is
+//! alive, and whoever asks has shown that there is one; which of two is taken decides how long a
+//! lasso gets, and nothing else.
 
 ghost use Rattle.std.specs.Prelude.{◌≡◌, ◌<◌, length, true};
 ghost use Rattle.std.specs.List.{AllByRecursion};

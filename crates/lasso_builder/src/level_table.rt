@@ -4,8 +4,8 @@
 ghost use Rattle.std.specs.Prelude.{◌≡◌, ℕ, ◌-◌, ◌<◌, ◌^◌, ◌⊎◌, length, get_or, IfOk, IsTrue, true, false};
 ghost use Rattle.std.specs.List.{AllByRecursion};
 ghost use Rattle.formula_table.specs.Closures.{closure_of};
-ghost use Rattle.tableau_rules.specs.QuerySeen.{cores_in};
-ghost use Rattle.tableau_rules.specs.GraphSeen.{graph_of};
+ghost use Rattle.tableau_rules.specs.QueryView.{cores_in};
+ghost use Rattle.tableau_rules.specs.GraphView.{graph_of};
 ghost use Rattle.tableau_rules.specs.Links.{kids_of, fulfils_at, carries_at, InRange};
 ghost use Rattle.tableau_rules.specs.Levels.{HasLevels, PlacesSurvive, Alive, alive_at, levelled_at, head_is, some_is};
 ghost use Rattle.lasso_builder.specs.LevelTables.{LevelsFor, AllLevels, IsLevelFor};
@@ -13,11 +13,11 @@ ghost use Rattle.lasso_builder.specs.LevelTables.{LevelsFor, AllLevels, IsLevelF
 use crate::kid::{is_first_alive, lower_kid};
 use source_sink::Memory;
 use std::alloc::Global;
-use tableau_rules::{Graph, Kids, Link, Query, does_carry, does_fulfil, levels};
+use tableau_rules::{Edges, Graph, Kids, Query, does_carry, does_fulfil, levels};
 
 // 0 where the place fulfils in a living kid, else one more than the level of the lowest kid.
 fn best_level(
-    links: &[Link],
+    links: &[Edges],
     until: u16,
     alive: &[bool],
     levels: &[u32],
@@ -40,7 +40,7 @@ fn best_level(
 }
 
 // Lowers levels, in one pass from the last place to the first.
-fn polish(links: &[Link], until: u16, alive: &[bool], levels: &mut [u32])
+fn polish(links: &[Edges], until: u16, alive: &[bool], levels: &mut [u32])
     requires few { length links.now < 2 ^ 32 }
     requires alive { length alive.now ≡ length links.now }
     requires range { InRange links.now }
@@ -63,7 +63,7 @@ fn polish(links: &[Link], until: u16, alive: &[bool], levels: &mut [u32])
 /// lead to earlier places, which the first comes to last.
 pub(crate) fn near_levels(
     alloc: Global,
-    links: &[Link],
+    links: &[Edges],
     until: u16,
     alive: &[bool],
 ) -> Result<Vec<u32>, Memory>
@@ -112,7 +112,7 @@ fn levels_for(
     alloc: Global,
     query: &Query,
     graph: &Graph,
-    links: &[Link],
+    links: &[Edges],
     formula: u16,
     alive: &[bool],
 ) -> Result<Vec<u32>, Memory>
@@ -135,7 +135,7 @@ pub(crate) fn level_table(
     alloc: Global,
     query: &Query,
     graph: &Graph,
-    links: &[Link],
+    links: &[Edges],
     alive: &[bool],
 ) -> Result<Vec<Vec<u32>>, Memory>
     requires few { length links.now < 2 ^ 32 }

@@ -10,6 +10,3 @@ mod states;
 mod walk;
 
 pub use builder::build;
-
-#[cfg(test)]
-mod tests;

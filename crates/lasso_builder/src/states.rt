@@ -6,9 +6,9 @@ ghost use Rattle.state_space.specs.Spaces.{sizes};
 ghost use Rattle.temporal_logic.specs.Rows.{rows};
 ghost use Rattle.temporal_logic.specs.Lassos.{IsOfSpace};
 ghost use Rattle.bound_unfolding.specs.CoreForm.{CoreForm};
-ghost use Rattle.tableau_rules.specs.GraphSeen.{graph_of};
+ghost use Rattle.tableau_rules.specs.GraphView.{graph_of};
 ghost use Rattle.tableau_rules.specs.Turns.{sets_of};
-ghost use Rattle.tableau_rules.specs.NodeSeen.{node_of};
+ghost use Rattle.tableau_rules.specs.NodeView.{node_of};
 ghost use Rattle.tableau_rules.specs.Walks.{is_empty, least_index, states, IsAnswer};
 ghost use Rattle.lasso_builder.specs.GraphPlaces.{nodes_at};
 

@@ -3,8 +3,8 @@
 
 ghost use Rattle.std.specs.Prelude.{◌≡◌, ℕ, ◌-◌, ◌<◌, ◌^◌, length, get_or, IfOk, OnOk};
 ghost use Rattle.formula_table.specs.Closures.{closure_of};
-ghost use Rattle.tableau_rules.specs.QuerySeen.{cores_in};
-ghost use Rattle.tableau_rules.specs.GraphSeen.{graph_of};
+ghost use Rattle.tableau_rules.specs.QueryView.{cores_in};
+ghost use Rattle.tableau_rules.specs.GraphView.{graph_of};
 ghost use Rattle.tableau_rules.specs.Links.{fulfils_at, carries_at, InRange};
 ghost use Rattle.tableau_rules.specs.Levels.{HasLevels, PlacesSurvive};
 ghost use Rattle.lasso_builder.specs.PlaceWalks.{IsWalk, GoesOn, Steps, Descends, Leg, Lap, IsClosed, IsLapped};
@@ -14,11 +14,11 @@ use crate::kid::{first_kid, is_first_alive, lower_kid, some_kid};
 use crate::level_table::{is_pending, level_table};
 use source_sink::Memory;
 use std::alloc::Global;
-use tableau_rules::{Graph, Link, Query, does_fulfil};
+use tableau_rules::{Edges, Graph, Query, does_fulfil};
 
 /// Goes down the levels from the last place, and into the kid in which the until is fulfilled.
 pub(crate) fn descend(
-    links: &[Link],
+    links: &[Edges],
     until: u16,
     alive: &[bool],
     levels: &[u32],
@@ -48,7 +48,7 @@ pub(crate) fn descend(
 fn leg(
     query: &Query,
     graph: &Graph,
-    links: &[Link],
+    links: &[Edges],
     formula: u16,
     alive: &[bool],
     levels: &[u32],
@@ -71,7 +71,7 @@ fn leg(
 }
 
 // Goes on from the last place to some kid that is alive.
-fn step(links: &[Link], alive: &[bool], walk: &mut Vec<u32>) -> Result<(), Memory>
+fn step(links: &[Edges], alive: &[bool], walk: &mut Vec<u32>) -> Result<(), Memory>
     requires alive { length alive.now ≡ length links.now }
     requires range { InRange links.now }
     requires goes { GoesOn links.now alive.now }
@@ -83,11 +83,12 @@ fn step(links: &[Link], alive: &[bool], walk: &mut Vec<u32>) -> Result<(), Memor
     Ok(())
 }
 
-// Goes one step on, and then serves each until in turn.
+// Goes one step on, and then serves each until in turn. Without the step a lap on which nothing is
+// to be served would close to an empty loop.
 fn lap(
     query: &Query,
     graph: &Graph,
-    links: &[Link],
+    links: &[Edges],
     alive: &[bool],
     table: &[Vec<u32>],
     walk: &mut Vec<u32>,
@@ -117,11 +118,12 @@ fn lap(
     Ok(())
 }
 
-// Laps until the last place is one at which a lap began. Answers where it did.
+// Laps until the last place is one at which a lap began. Answers where it did. `begun` has for each
+// place how long the walk was when a lap began there, which is at least 1, or 0 where none did.
 fn laps(
     query: &Query,
     graph: &Graph,
-    links: &[Link],
+    links: &[Edges],
     alive: &[bool],
     table: &[Vec<u32>],
     begun: &mut [usize],
@@ -161,7 +163,7 @@ pub(crate) fn closed_walk(
     alloc: Global,
     query: &Query,
     graph: &Graph,
-    links: &[Link],
+    links: &[Edges],
     alive: &[bool],
 ) -> Result<ClosedWalk, Memory>
     requires few { length links.now < 2 ^ 32 }

@@ -5,16 +5,10 @@ use Rattle.std.specs.Int.{bit_at, bit_not, w64}
 use Rattle.std.proofs.lemmas.Bool.{cases_eq}
 use Rattle.std.proofs.lemmas.Nat.Bits.{bit_at-lt, bit_at-zero, bit_at_and, bit_at_or, bit_at_xor, bit_at_not}
 use Rattle.temporal_logic.proofs.Equivalences.{iff_trans, and_iff, or_iff, iff_refl, value_iff}
+use Rattle.state_space.proofs.BitSets.{meet_has, join_has}
 
 -- ---- one bit of each
 module _ (x y : ℕ) (s : x < 2) (t : y < 2) where
-  and_bits : (min x y ≡ 1) ↔ ((x ≡ 1) × (y ≡ 1))
-  and_bits = (λ h. (omega arith, omega arith), λ h. omega (arith, h.0, h.1))
-
-  or_bits : (max x y ≡ 1) ↔ ((x ≡ 1) ⊎ (y ≡ 1))
-  or_bits =
-      (λ h. ⊎_elim inl (λ n. inr (omega (arith, n))) (cases_eq x 1), ⊎_elim (λ h. omega (arith, h)) (λ h. omega (arith, h)))
-
   implies_bits : (max (1 - x) y ≡ 1) ↔ (x ≡ 1 → y ≡ 1)
   implies_bits =
       (λ h a. omega (arith, h, a), λ f. ⊎_elim (λ e. let g = f e in omega (arith, e, g)) (λ n. omega (arith, n)) (cases_eq x 1))
@@ -30,14 +24,6 @@ not_bits x s = (λ h a. omega (arith, h, a), λ n. omega (arith, n))
 is_one : (x y : ℕ) → x ≡ y → (x ≡ 1) ↔ (y ≡ 1)
 is_one x y e = value_iff (λ v. v ≡ 1) e
 
-pub and_word : (a b r : ℕ) → (bit_at (bit_and a b) r ≡ 1) ↔ ((bit_at a r ≡ 1) × (bit_at b r ≡ 1))
-and_word a b r =
-    iff_trans (is_one (bit_at (bit_and a b) r) (min (bit_at a r) (bit_at b r)) (bit_at_and a b r)) (and_bits (bit_at a r) (bit_at b r) (bit_at-lt a r) (bit_at-lt b r))
-
-pub or_word : (a b r : ℕ) → (bit_at (bit_or a b) r ≡ 1) ↔ ((bit_at a r ≡ 1) ⊎ (bit_at b r ≡ 1))
-or_word a b r =
-    iff_trans (is_one (bit_at (bit_or a b) r) (max (bit_at a r) (bit_at b r)) (bit_at_or a b r)) (or_bits (bit_at a r) (bit_at b r) (bit_at-lt a r) (bit_at-lt b r))
-
 pub not_word : (a r : ℕ) → a < 2 ^ 64 → r < 64 → (bit_at (bit_not w64 a) r ≡ 1) ↔ (¬ (bit_at a r ≡ 1))
 not_word a r s l =
     iff_trans (is_one (bit_at (bit_not w64 a) r) (1 - bit_at a r) (bit_at_not w64 a r s l)) (not_bits (bit_at a r) (bit_at-lt a r))
@@ -51,10 +37,10 @@ iff_word a b r s l =
     iff_trans (is_one (bit_at (bit_xor (bit_not w64 a) b) r) ((1 - bit_at a r + bit_at b r) % 2) (bit_at_xor (bit_not w64 a) b r ∙ ap (λ v. (v + bit_at b r) % 2) (bit_at_not w64 a r s l))) (iff_bits (bit_at a r) (bit_at b r) (bit_at-lt a r) (bit_at-lt b r))
 
 pub either_word : (a b c r : ℕ) → (bit_at (bit_or b (bit_and a c)) r ≡ 1) ↔ ((bit_at b r ≡ 1) ⊎ ((bit_at a r ≡ 1) × (bit_at c r ≡ 1)))
-either_word a b c r = iff_trans (or_word b (bit_and a c) r) (or_iff iff_refl (and_word a c r))
+either_word a b c r = iff_trans (join_has b (bit_and a c) r) (or_iff iff_refl (meet_has a c r))
 
 pub both_word : (a b c r : ℕ) → (bit_at (bit_and b (bit_or a c)) r ≡ 1) ↔ ((bit_at b r ≡ 1) × ((bit_at a r ≡ 1) ⊎ (bit_at c r ≡ 1)))
-both_word a b c r = iff_trans (and_word b (bit_or a c) r) (and_iff iff_refl (or_word a c r))
+both_word a b c r = iff_trans (meet_has b (bit_or a c) r) (and_iff iff_refl (join_has a c r))
 
 pub none_word : (r : ℕ) → ¬ (bit_at 0 r ≡ 1)
 none_word r h = let z = bit_at-zero r in omega (arith, z, h)

@@ -23,6 +23,3 @@ bit_of-set_other t base q w r l ne h = ⊎_elim same other (cases_eq (r / 64) (q
 
     other : r / 64 ≢ q / 64 → bit_of (slice_set t (base + q / 64) w) base r ≡ bit_of t base r
     other d = ap (λ v. bit_at v (r % 64)) (get_or-set_other t (base + q / 64) (base + r / 64) w 0 (omega arith))
-
-pub zero_not_one : (x : ℕ) → x ≡ 0 → x ≡ 1 → ⊥
-zero_not_one x e h = omega arith

@@ -1,6 +1,7 @@
--- Formulas without operands.
+-- Formulas without operands, whose rows are read off the states of a lasso.
 use Rattle.temporal_logic.specs.Ltl.{Ltl, truth, falsity, flag, compares, among, relates}
 
+-- a constant, or a test of one variable or two at one position
 abbrev pub IsAtom : Ltl → Type 0
 IsAtom truth = Unit {0}
 IsAtom falsity = Unit {0}

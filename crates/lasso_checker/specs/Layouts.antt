@@ -1,4 +1,4 @@
--- Rows over a lasso.
+-- When a row of bits over a lasso holds exactly where a predicate of positions does.
 use Rattle.std.specs.Prelude.{◌≡◌, ℕ, ◌↔◌, List, length}
 use Rattle.temporal_logic.specs.declared.lasso.Lasso.{Lasso}
 use Rattle.lasso_checker.specs.declared.layout.Layout.{Layout}

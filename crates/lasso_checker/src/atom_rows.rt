@@ -1,10 +1,11 @@
-//! Rows of the formulas without operands, from the states of the lasso.
+//! Rows of the formulas without operands, from the states of the lasso, a position at a time: the
+//! only rows for which states are looked at.
 
 ghost use Rattle.std.specs.Prelude.{◌≡◌, ℕ, ◌+◌, ◌≤◌, ◌↔◌, IsTrue, length};
 ghost use Rattle.std.specs.Int.{bit_at};
 ghost use Rattle.temporal_logic.specs.Lassos.{trace_of};
 ghost use Rattle.temporal_logic.specs.Trees.{relation_of, tree_of};
-ghost use Rattle.temporal_logic.specs.Truth.{Stands, Truth};
+ghost use Rattle.temporal_logic.specs.Truth.{Compares, Truth};
 ghost use Rattle.lasso_checker.specs.Atoms.{IsAtom};
 ghost use Rattle.lasso_checker.specs.Places.{KeepsBelow};
 ghost use Rattle.lasso_checker.specs.Layouts.{IsLayoutOf, IsRowOf};
@@ -24,7 +25,7 @@ fn value_at(lasso: &Lasso, position: usize, x: VarId) -> u8
 
 // Whether the two value indexes compare so.
 fn stands(cmp: Cmp, one: u8, other: u8) -> bool
-    ensures stands { IsTrue result ↔ Stands (relation_of cmp) one other }
+    ensures stands { IsTrue result ↔ Compares (relation_of cmp) one other }
 {
     match cmp {
         Cmp::Eq => one == other,

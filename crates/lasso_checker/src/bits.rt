@@ -1,4 +1,6 @@
-//! Single bits of a row.
+//! Single bits of a row, for the seams that words do not fit: the loop's end, and the operators
+//! that look from one position to the next. The bit of a place is bit `place % 64` of word `place /
+//! 64`.
 
 ghost use Rattle.std.specs.Prelude.{◌≡◌, ◌≢◌, ℕ, ◌+◌, ◌/◌, ◌%◌, ◌<◌, ◌↔◌, IsTrue, length, slice_index};
 ghost use Rattle.std.specs.Int.{bit_at};

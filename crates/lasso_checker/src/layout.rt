@@ -1,4 +1,5 @@
-//! How the positions of a lasso lie in a row of bits.
+//! How the positions of a lasso lie in a row of bits: first the prefix, then the loop once, a bit
+//! each. What is past the last place in the last word means nothing.
 
 ghost use Rattle.std.specs.Prelude.{◌≡◌, ◌+◌, ◌/◌, ◌<◌, ◌^◌, length};
 

@@ -17,6 +17,3 @@ mod until_rows;
 pub use check::{first_false, truth_at_start};
 pub use law::law_of_the_loop;
 pub use scratch::scratch_len;
-
-#[cfg(test)]
-mod tests;

@@ -1,4 +1,6 @@
-//! Rows of all operators, from those of their operands.
+//! Rows of all operators, from those of their operands, which are written over. Each operator comes
+//! to one of rows.rt, until_rows.rt or bounded_rows.rt; `eventually` and `always` are waiting
+//! operators beside a constant row.
 
 ghost use Rattle.std.specs.Prelude.{ℕ, ◌+◌, ◌*◌, ◌≤◌, ◌↔◌, IsTrue, true, false, length};
 ghost use Rattle.lasso_checker.specs.Places.{KeepsBelow};

@@ -1,4 +1,5 @@
-//! The operators, by what they make of the rows of their operands.
+//! The operators, by what they make of the rows of their operands: of the bits at one position, and
+//! of the 64 of a word at once, which is proved to be the same. A further operator begins here.
 
 ghost use Rattle.std.specs.Prelude.{◌≡◌, ℕ, ◌<◌, ◌↔◌, IsTrue};
 ghost use Rattle.std.specs.Int.{bit_at};

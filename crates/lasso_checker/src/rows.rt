@@ -1,4 +1,8 @@
-//! Rows that are made of other rows 64 positions at a time.
+//! Rows that are made of other rows 64 positions at a time. The plain form is the operator at each
+//! position by itself (specs/Operators.antt), and each clause says that the row is that. Where a
+//! row moves by one position, the last of the loop takes the bit of the loop's first, which is set
+//! alone. Measured with all else: a formula of 100 levels on a trace of 10,000 states took 0.03 to
+//! 0.07 s, with reading the text (docs/ARCHITECTURE.md).
 
 ghost use Rattle.std.specs.Prelude.{◌≡◌, ℕ, ◌+◌, ◌<◌, ◌≤◌, ◌↔◌, ◌⊎◌, IsTrue, length, slice_index};
 ghost use Rattle.std.specs.Int.{bit_at};

@@ -1,4 +1,6 @@
-//! How much scratch a formula takes.
+//! How much scratch a formula takes, for the caller who gives it: the first operand begins where
+//! its parent's row does and the second a row later, so that rows grow with depth and not with
+//! size.
 
 ghost use Rattle.std.specs.Prelude.{◌≡◌, ◌+◌, ◌-◌, ◌*◌, ◌^◌, ◌<◌, ◌≤◌, min};
 ghost use Rattle.temporal_logic.specs.Shapes.{depth_of};

@@ -1,16 +1,20 @@
 -- The first 40 bytes of a word that is a name but for its length are a name.
-use Rattle.std.proofs.Common.{◌≡◌, ℕ, zero, suc, ◌<◌, ◌≤◌, Bool, true, false, List, [], ◌∷◌, length, take, Option, Some, None, refl, sym, ap, ◌∙◌, ⊎_elim, arith, lit<}
-use Rattle.std.specs.Prelude.{◌&&◌, is_none, min}
+use Rattle.std.proofs.Common.{◌≡◌, ℕ, zero, suc, ◌<◌, ◌≤◌, Bool, true, false, List, [], ◌∷◌, length, take, Option, Some, None, refl, sym, ap, subst, ◌∙◌, ⊎_elim, arith, lit<, codes, if◌then◌else◌}
+use Rattle.std.specs.Prelude.{◌&&◌, is_none, min, bytes_eq}
 use Rattle.std.specs.List.{list_all}
 use Rattle.std.specs.Char.{is_ascii_alphabetic}
 use Rattle.std.proofs.lemmas.List.{length-take, length-take-le, take_all}
 use Rattle.std.proofs.lemmas.Bool.{cases_lt}
+use Rattle.std.proofs.lemmas.Slice.Eq.{bytes_eq-Decides}
 use Rattle.state_space.specs.declared.keyword.Keyword.{Keyword}
 use Rattle.state_space.specs.declared.keyword.Keyword.TheVariants as keys
 use Rattle.state_space.specs.Keywords.{spelling, keyword_of}
 use Rattle.state_space.specs.Names.{IsName, has_name_form, is_word_byte}
 use Rattle.state_space.proofs.Spellings.{spelling_of_keyword}
+use Rattle.model_text.specs.declared.token.Further.{Further}
+use Rattle.model_text.specs.declared.token.Further.TheVariants as furthers
 use Rattle.model_text.specs.Leaves.{cut_name}
+use Rattle.model_text.specs.Versions.{further_word}
 
 short_spelling : (k : Keyword) → length (spelling k) < 40
 short_spelling keys.Kaos = lit< tt
@@ -109,3 +113,32 @@ cut_by_length bytes n e = ⊎_elim long short (cases_lt 40 (length bytes))
 
     short : length bytes ≤ 40 → take n bytes ≡ cut_name bytes
     short s = let le : length bytes ≤ n = omega arith in take_all n bytes le ∙ sym (take_all 40 bytes s)
+
+-- a word of 40 bytes is longer than each keyword of version 2
+further_spelled : (word : List ℕ) (f : Further) → further_word word ≡ Some f → length word < 40
+unfolding further_word
+further_spelled word f e = by_entity (bytes_eq word (codes "entity")) (bytes_eq word (codes "attr")) (bytes_eq word (codes "all")) (bytes_eq word (codes "some")) (bytes_eq-Decides word (codes "entity")).0 (bytes_eq-Decides word (codes "attr")).0 (bytes_eq-Decides word (codes "all")).0 (bytes_eq-Decides word (codes "some")).0 e
+  where
+    short : (other : List ℕ) → length other < 40 → word ≡ other → length word < 40
+    short other l is = subst (λ (n : ℕ). n < 40) (sym (ap length is)) l
+
+    by_entity : (a b c d : Bool) → (a ≡ true → word ≡ codes "entity") → (b ≡ true → word ≡ codes "attr") → (c ≡ true → word ≡ codes "all") → (d ≡ true → word ≡ codes "some")
+        → (if a then Some furthers.Entity else (if b then Some furthers.Attr else (if c then Some furthers.All else (if d then Some furthers.Some else None)))) ≡ Some f → length word < 40
+    by_entity true b c d p q r s e = short (codes "entity") (lit< tt) (p refl)
+    by_entity false true c d p q r s e = short (codes "attr") (lit< tt) (q refl)
+    by_entity false false true d p q r s e = short (codes "all") (lit< tt) (r refl)
+    by_entity false false false true p q r s e = short (codes "some") (lit< tt) (s refl)
+    by_entity false false false false p q r s e = absurd cc
+
+long_further : (word : List ℕ) → length word ≡ 40 → (o : Option Further) → further_word word ≡ o → o ≡ None
+long_further word long None e = refl
+long_further word long (Some f) e = let short = further_spelled word f e in let never : ⊥ = omega (arith, short, long) in absurd never
+
+pub cut_further : (bytes : List ℕ) → further_word bytes ≡ None → further_word (cut_name bytes) ≡ None
+cut_further bytes free = ⊎_elim long short (cases_lt 40 (length bytes))
+  where
+    long : 40 < length bytes → further_word (cut_name bytes) ≡ None
+    long l = long_further (cut_name bytes) (length-take-le 40 bytes (omega arith)) (further_word (cut_name bytes)) refl
+
+    short : length bytes ≤ 40 → further_word (cut_name bytes) ≡ None
+    short s = ap further_word (take_all 40 bytes s) ∙ free

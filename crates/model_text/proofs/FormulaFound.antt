@@ -1,23 +1,25 @@
 -- What is read is spelled so, by the levels of the grammar.
-use Rattle.std.proofs.Common.{◌≡◌, ℕ, zero, suc, Bool, List, [], ◌∷◌, ◌++◌, length, Option, Some, None, Ok, refl, sym, ap, subst, ◌∙◌, append_assoc, inl, inr, ◌<◌, ◌≤◌, length-append, arith}
+use Rattle.std.proofs.Common.{◌≡◌, ℕ, zero, suc, Bool, List, [], ◌∷◌, ◌++◌, length, Option, Some, None, Ok, refl, sym, ap, ap₂, subst, ◌∙◌, append_assoc, inl, inr, ◌<◌, ◌≤◌, length-append, arith}
 use Rattle.std.proofs.lemmas.Option.{some_pair_parts}
 use Rattle.std.proofs.lemmas.List.{append-nil}
 use Rattle.state_space.specs.declared.keyword.Keyword.{Keyword}
 use Rattle.state_space.specs.declared.keyword.Keyword.TheVariants as keywords
-use Rattle.model_text.specs.declared.token.Mark.{Mark}
-use Rattle.model_text.specs.declared.token.Mark.TheVariants.{Comma, OpenParenthesis, CloseParenthesis, OpenBrace, CloseBrace}
+use Rattle.model_text.specs.declared.token.Sign.{Sign}
+use Rattle.model_text.specs.declared.token.Sign.TheVariants.{Colon, Comma, OpenParenthesis, CloseParenthesis, OpenBrace, CloseBrace}
 use Rattle.model_text.specs.declared.formula_reader.Opening.{Opening}
 use Rattle.model_text.specs.declared.formula_reader.Opening.TheVariants as openings
 use Rattle.model_text.specs.declared.formula_reader.Joining.{Joining}
 use Rattle.model_text.specs.declared.formula_reader.Joining.TheVariants as joinings
+use Rattle.model_text.specs.declared.token.Further.{Further}
+use Rattle.model_text.specs.declared.token.Further.TheVariants as furthers
 use Rattle.temporal_logic.specs.Ltl.{Relation}
-use Rattle.model_text.specs.Tokens.{TokenForm, keyword, mark, name, number}
-use Rattle.model_text.specs.RawTrees.{WrittenValue, RawTree, truth, falsity, bare, compares, among, eventually_within, always_within, conj, disj, implies, iff, entails, until_within, unless_within, release_within}
+use Rattle.model_text.specs.Tokens.{TokenForm, keyword, mark, name, number, further}
+use Rattle.model_text.specs.RawTrees.{WrittenValue, a_word, a_number, a_truth, an_attribute, RawTree, truth, falsity, eventually_within, always_within, conj, disj, implies, iff, entails, until_within, unless_within, release_within, for_all, for_some}
 use Rattle.model_text.specs.Leaves.{cut_name, bound_value, relation_of, value_of}
-use Rattle.model_text.specs.FormulaGrammar.{Level, whole_level, iff_level, implies_level, or_level, and_level, tempo_level, prefix_level, primary_level, SpellsValues, one_value, more_values, SpellsFormula, a_truth, a_falsity, in_parentheses, a_flag, a_comparison, a_choice, a_primary, a_negation, a_next, an_eventually, an_always, an_eventually_within, an_always_within, a_prefix, an_until, an_unless, a_release, an_until_within, an_unless_within, a_release_within, a_tempo, a_conjunction, a_conjunct, a_disjunction, a_disjunct, an_implication, a_side, an_equivalence, a_whole, an_entailment}
-use Rattle.model_text.specs.Reading.{Reading, and_then, behind_keyword, behind_mark, mark_at, name_at}
-use Rattle.model_text.specs.FormulaReading.{Reads, if_behind, read_as, steps_at, bound_at, value_or_fault, value_at, with_rest, comparison_at, more_values_at, values_at, choice_at, atom_by, atom_at, closed, primary_with, opening_at, opened, prefix_behind, prefix_with, joining_at, joined, tempo_behind, tempo_with, chain, and_with, or_with, with_right, implies_from, implies_with, iff_with, whole_with, prefix_at}
-use Rattle.model_text.proofs.FormulaTokens.{keyword_is, mark_is, mark_at_is, ok_parts, and_then_ok, read_as_ok, if_behind_cases}
+use Rattle.model_text.specs.FormulaGrammar.{Level, whole_level, iff_level, implies_level, or_level, and_level, tempo_level, prefix_level, primary_level, argument, SpellsValues, one_value, more_values, SpellsRight, a_value, an_attribute_value, SpellsFormula, a_truth, a_falsity, in_parentheses, a_flag, a_comparison, a_choice, a_flag_of, a_comparison_of, a_choice_of, a_universal, an_existential, a_primary, a_negation, a_next, an_eventually, an_always, an_eventually_within, an_always_within, a_prefix, an_until, an_unless, a_release, an_until_within, an_unless_within, a_release_within, a_tempo, a_conjunction, a_conjunct, a_disjunction, a_disjunct, an_implication, a_side, an_equivalence, a_whole, an_entailment}
+use Rattle.model_text.specs.Reading.{Reading, and_then, behind_keyword, behind_mark, behind_further, mark_at, further_at, name_at}
+use Rattle.model_text.specs.FormulaReading.{Reads, if_behind, read_as, steps_at, bound_at, value_or_fault, value_at, with_rest, comparison_at, more_values_at, values_at, choice_at, argument_at, right_with, right_behind, right_at, bare_with, compares_with, among_with, atom_by, atom_at, closed, primary_with, head_at, quantified_with, simple_with, opening_at, opened, prefix_behind, prefix_with, joining_at, joined, tempo_behind, tempo_with, chain, and_with, or_with, with_right, implies_from, implies_with, iff_with, whole_with, prefix_at}
+use Rattle.model_text.proofs.FormulaTokens.{keyword_is, mark_is, further_is, mark_at_is, further_at_is, ok_parts, and_then_ok, read_as_ok, if_behind_cases}
 
 -- ---- leaves
 
@@ -102,7 +104,7 @@ name_found [] x rest e = absurd cc
 name_found (name bytes ∷ ts) x rest e = let p = ok_parts (cut_name bytes) x ts rest e in (bytes, ap (λ (us : List TokenForm). name bytes ∷ us) p.1, p.0)
 name_found (t ∷ ts) x rest e = absurd cc
 
-comparison_found : (ts : List TokenForm) (r : Relation) (rest : List TokenForm) → comparison_at ts ≡ Some (r, rest) → (m : Mark) × (relation_of m ≡ Some r) × (ts ≡ mark m ∷ rest)
+comparison_found : (ts : List TokenForm) (r : Relation) (rest : List TokenForm) → comparison_at ts ≡ Some (r, rest) → (m : Sign) × (relation_of m ≡ Some r) × (ts ≡ mark m ∷ rest)
 comparison_found [] r rest e = absurd cc
 comparison_found (mark m ∷ ts) r rest e = let p = with_rest_is (relation_of m) e in (m, p.0, ap (λ (us : List TokenForm). mark m ∷ us) p.1)
   where
@@ -128,40 +130,132 @@ same_begins l ts f g rest more e h =
 same_formula : (l : Level) (ts : List TokenForm) (f g : RawTree) (rest : List TokenForm) → f ≡ g → Begins l ts f rest → Begins l ts g rest
 same_formula l ts f g rest e h = subst (λ (x : RawTree). Begins l ts x rest) e h
 
-atom_by_found : (bytes : List ℕ) (ts : List TokenForm) (o : Option (Relation × List TokenForm)) (f : RawTree) (rest : List TokenForm) → comparison_at ts ≡ o → atom_by (cut_name bytes) ts o ≡ Ok (f, rest) → Begins primary_level (name bytes ∷ ts) f rest
-atom_by_found bytes ts (Some compared) f rest is e =
-    let x = read_as_ok (λ v. compares (cut_name bytes) compared.0 v) (value_at compared.1) f rest e in
+-- the tokens of a name in brackets, where there is one
+abbrev IsArgument : Option (List ℕ) → List TokenForm → List TokenForm → Type 0
+IsArgument None ts rest = ts ≡ rest
+IsArgument (Some x) ts rest = (bytes : List ℕ) × (cut_name bytes ≡ x) × (ts ≡ argument bytes rest)
+
+argument_found : (ts : List TokenForm) (a : Option (List ℕ)) (rest : List TokenForm) → argument_at ts ≡ Ok (a, rest) → IsArgument a ts rest
+unfolding argument_at
+argument_found ts a rest e =
+    elim (if_behind_cases (behind_further furthers.OpenArgument ts) (λ inner. and_then (name_at inner) (λ x more. read_as (λ _. Some x) (mark_at CloseParenthesis more))) (Ok (None, ts)) (Ok (a, rest)) e) [
+      | inl h ↦ some_found h.0 (further_is furthers.OpenArgument ts h.0 h.1) h.2
+      | inr h ↦ let p = ok_parts None a ts rest h.1 in subst (λ (b : Option (List ℕ)). IsArgument b ts rest) p.0 p.1
+    ]
+  where
+    some_found : (inner : List TokenForm) → ts ≡ further furthers.OpenArgument ∷ inner → and_then (name_at inner) (λ x more. read_as (λ _. Some x) (mark_at CloseParenthesis more)) ≡ Ok (a, rest) → IsArgument a ts rest
+    some_found inner is e =
+        let x = and_then_ok (name_at inner) (λ x more. read_as (λ _. Some x) (mark_at CloseParenthesis more)) a rest e in
+        let y = read_as_ok (λ _. Some x.0) (mark_at CloseParenthesis x.1) a rest x.3 in
+        let n = name_found inner x.0 x.1 x.2 in
+        let tokens : ts ≡ argument n.0 rest = is ∙ ap (λ (us : List TokenForm). further furthers.OpenArgument ∷ us) (n.1 ∙ ap (λ (us : List TokenForm). name n.0 ∷ us) (mark_at_is CloseParenthesis x.1 y.0 rest y.1)) in
+        subst (λ (b : Option (List ℕ)). IsArgument b ts rest) y.2 (n.0, n.2, tokens)
+
+-- a front of the tokens spells what stands behind a comparison
+abbrev BeginsRight : List TokenForm → WrittenValue → List TokenForm → Type 0
+BeginsRight ts v rest = (front : List TokenForm) × SpellsRight front v × (ts ≡ front ++ rest)
+
+word_is : (t : TokenForm) (f : List ℕ) → value_of t ≡ Some (a_word f) → (bytes : List ℕ) × (t ≡ name bytes) × (cut_name bytes ≡ f)
+word_is (name bytes) f e = let is : cut_name bytes ≡ f = cc in (bytes, refl, is)
+word_is (number s d) f e = absurd cc
+word_is (keyword keywords.True) f e = absurd cc
+word_is (keyword keywords.False) f e = absurd cc
+word_is t f e = absurd cc
+
+right_value_found : (ts : List TokenForm) (v : WrittenValue) (rest : List TokenForm) → right_at ts ≡ Ok (v, rest) → BeginsRight ts v rest
+unfolding right_at
+right_value_found ts v rest e =
+    let x = and_then_ok (value_at ts) right_behind v rest e in
+    let here = value_found ts x.0 x.1 x.2 in
+    by_value x.0 here.0 x.1 here.1 here.2 x.3
+  where
+    same_value : (w : WrittenValue) (t : TokenForm) (more : List TokenForm) → value_of t ≡ Some w → ts ≡ t ∷ more → ◌≡◌ {A = Reading WrittenValue} (Ok (w, more)) (Ok (v, rest)) → BeginsRight ts v rest
+    same_value w t more is at e = let p = ok_parts w v more rest e in subst (λ (u : WrittenValue). BeginsRight ts u rest) p.0 (t ∷ [], a_value t w is, at ∙ ap (λ (us : List TokenForm). t ∷ us) p.1)
+
+    by_argument : (f : List ℕ) (t : TokenForm) (more : List TokenForm) → value_of t ≡ Some (a_word f) → ts ≡ t ∷ more → (a : Option (List ℕ)) → IsArgument a more rest → BeginsRight ts (right_with f a) rest
+    by_argument f t more is at None same = (t ∷ [], a_value t (a_word f) is, at ∙ ap (λ (us : List TokenForm). t ∷ us) same)
+    by_argument f t more is at (Some x) found =
+        let w = word_is t f is in
+        let tokens : ts ≡ name w.0 ∷ argument found.0 rest = at ∙ ap (λ (u : TokenForm). u ∷ more) w.1 ∙ ap (λ (us : List TokenForm). name w.0 ∷ us) found.2 in
+        subst (λ (y : List ℕ). BeginsRight ts (an_attribute f y) rest) found.1 (subst (λ (g : List ℕ). BeginsRight ts (an_attribute g (cut_name found.0)) rest) w.2 (name w.0 ∷ argument found.0 [], an_attribute_value w.0 found.0, tokens))
+
+    by_value : (w : WrittenValue) (t : TokenForm) (more : List TokenForm) → value_of t ≡ Some w → ts ≡ t ∷ more → right_behind w more ≡ Ok (v, rest) → BeginsRight ts v rest
+    by_value (a_word f) t more is at e =
+        let x = read_as_ok (right_with f) (argument_at more) v rest e in
+        subst (λ (u : WrittenValue). BeginsRight ts u rest) x.2 (by_argument f t more is at x.0 (argument_found more x.0 rest x.1))
+    by_value (a_number n) t more is at e = same_value (a_number n) t more is at e
+    by_value (a_truth b) t more is at e = same_value (a_truth b) t more is at e
+    by_value (an_attribute f x) t more is at e = same_value (an_attribute f x) t more is at e
+
+-- what atoms begin with these tokens
+record MakesAtoms (front : List TokenForm) (x : List ℕ) (a : Option (List ℕ)) : Type 0 where
+  alone : SpellsFormula primary_level front (bare_with x a)
+  compared : (m : Sign) (r : Relation) (ts : List TokenForm) (v : WrittenValue) → relation_of m ≡ Some r → SpellsRight ts v → SpellsFormula primary_level (front ++ mark m ∷ ts) (compares_with x a r v)
+  chosen : (ts : List TokenForm) (vs : List WrittenValue) → SpellsValues ts vs → SpellsFormula primary_level (front ++ (keyword keywords.In ∷ mark OpenBrace ∷ ts ++ mark CloseBrace ∷ [])) (among_with x a vs)
+
+plain_makes : (bytes x : List ℕ) → cut_name bytes ≡ x → MakesAtoms (name bytes ∷ []) x None
+plain_makes bytes x cut =
+    subst (λ (y : List ℕ). MakesAtoms (name bytes ∷ []) y None) cut
+    (record { alone = a_flag bytes; compared = λ m r ts v is s. a_comparison bytes m r is s; chosen = λ ts vs s. a_choice bytes s })
+
+of_makes : (bytes other f x : List ℕ) → cut_name bytes ≡ f → cut_name other ≡ x → MakesAtoms (name bytes ∷ argument other []) f (Some x)
+of_makes bytes other f x cut also =
+    subst (λ (g : List ℕ). MakesAtoms (name bytes ∷ argument other []) g (Some x)) cut
+    (subst (λ (y : List ℕ). MakesAtoms (name bytes ∷ argument other []) (cut_name bytes) (Some y)) also
+    (record { alone = a_flag_of bytes other; compared = λ m r ts v is s. a_comparison_of bytes other m r is s; chosen = λ ts vs s. a_choice_of bytes other s }))
+
+atom_by_found : (front : List TokenForm) (x : List ℕ) (a : Option (List ℕ)) → MakesAtoms front x a → (ts : List TokenForm) (o : Option (Relation × List TokenForm)) (f : RawTree) (rest : List TokenForm)
+    → comparison_at ts ≡ o → atom_by x a ts o ≡ Ok (f, rest) → Begins primary_level (front ++ ts) f rest
+atom_by_found front x a makes ts (Some compared) f rest is e =
+    let y = read_as_ok (compares_with x a compared.0) (right_at compared.1) f rest e in
     let sign = comparison_found ts compared.0 compared.1 is in
-    let here = value_found compared.1 x.0 rest x.1 in
-    let tokens : name bytes ∷ ts ≡ name bytes ∷ mark sign.0 ∷ here.0 ∷ rest = ap (λ (us : List TokenForm). name bytes ∷ us) (sign.2 ∙ ap (λ (us : List TokenForm). mark sign.0 ∷ us) here.2) in
-    same_formula primary_level (name bytes ∷ ts) (compares (cut_name bytes) compared.0 x.0) f rest x.2 (name bytes ∷ mark sign.0 ∷ here.0 ∷ [], a_comparison bytes sign.0 compared.0 here.0 x.0 sign.1 here.1, tokens)
-atom_by_found bytes ts None f rest is e =
-    elim (if_behind_cases (behind_keyword keywords.In ts) (λ inner. read_as (λ vs. among (cut_name bytes) vs) (choice_at inner)) (Ok (bare (cut_name bytes), ts)) (Ok (f, rest)) e) [
+    let here = right_value_found compared.1 y.0 rest y.1 in
+    let tokens : front ++ ts ≡ (front ++ mark sign.0 ∷ here.0) ++ rest =
+    ap (λ (us : List TokenForm). front ++ us) (sign.2 ∙ ap (λ (us : List TokenForm). mark sign.0 ∷ us) here.2) ∙ sym (append_assoc front (mark sign.0 ∷ here.0) rest) in
+    same_formula primary_level (front ++ ts) (compares_with x a compared.0 y.0) f rest y.2 (front ++ mark sign.0 ∷ here.0, makes.compared sign.0 compared.0 here.0 y.0 sign.1 here.1, tokens)
+atom_by_found front x a makes ts None f rest is e =
+    elim (if_behind_cases (behind_keyword keywords.In ts) (λ inner. read_as (among_with x a) (choice_at inner)) (Ok (bare_with x a, ts)) (Ok (f, rest)) e) [
       | inl h ↦
-          let x = read_as_ok (λ vs. among (cut_name bytes) vs) (choice_at h.0) f rest h.2 in
-          let part = choice_found h.0 x.0 rest x.1 in
-          let tokens : name bytes ∷ ts ≡ (name bytes ∷ keyword keywords.In ∷ mark OpenBrace ∷ part.0 ++ mark CloseBrace ∷ []) ++ rest =
-          ap (λ (us : List TokenForm). name bytes ∷ us) (keyword_is keywords.In ts h.0 h.1 ∙ ap (λ (us : List TokenForm). keyword keywords.In ∷ us) (part.2 ∙ ap (λ (us : List TokenForm). mark OpenBrace ∷ us) (sym (append_assoc part.0 (mark CloseBrace ∷ []) rest)))) in
-          same_formula primary_level (name bytes ∷ ts) (among (cut_name bytes) x.0) f rest x.2 (name bytes ∷ keyword keywords.In ∷ mark OpenBrace ∷ part.0 ++ mark CloseBrace ∷ [], a_choice bytes part.1, tokens)
-      | inr h ↦ same_begins primary_level (name bytes ∷ ts) (bare (cut_name bytes)) f ts rest h.1 (name bytes ∷ [], a_flag bytes, refl)
+          let y = read_as_ok (among_with x a) (choice_at h.0) f rest h.2 in
+          let part = choice_found h.0 y.0 rest y.1 in
+          let tokens : front ++ ts ≡ (front ++ (keyword keywords.In ∷ mark OpenBrace ∷ part.0 ++ mark CloseBrace ∷ [])) ++ rest =
+          ap (λ (us : List TokenForm). front ++ us) (keyword_is keywords.In ts h.0 h.1 ∙ ap (λ (us : List TokenForm). keyword keywords.In ∷ us) (part.2 ∙ ap (λ (us : List TokenForm). mark OpenBrace ∷ us) (sym (append_assoc part.0 (mark CloseBrace ∷ []) rest))))
+          ∙ sym (append_assoc front (keyword keywords.In ∷ mark OpenBrace ∷ part.0 ++ mark CloseBrace ∷ []) rest) in
+          same_formula primary_level (front ++ ts) (among_with x a y.0) f rest y.2 (front ++ (keyword keywords.In ∷ mark OpenBrace ∷ part.0 ++ mark CloseBrace ∷ []), makes.chosen part.0 y.0 part.1, tokens)
+      | inr h ↦ same_begins primary_level (front ++ ts) (bare_with x a) f ts rest h.1 (front, makes.alone, refl)
     ]
 
 atom_found : Finds primary_level atom_at
 unfolding atom_at
 atom_found ts f rest e =
-    let x = and_then_ok (name_at ts) (λ n more. atom_by n more (comparison_at more)) f rest e in
+    let x = and_then_ok (name_at ts) (λ n more. and_then (argument_at more) (λ a us. atom_by n a us (comparison_at us))) f rest e in
+    let y = and_then_ok (argument_at x.1) (λ a us. atom_by x.0 a us (comparison_at us)) f rest x.3 in
     let here = name_found ts x.0 x.1 x.2 in
-    let named : atom_by (cut_name here.0) x.1 (comparison_at x.1) ≡ Ok (f, rest) = ap (λ (n : List ℕ). atom_by n x.1 (comparison_at x.1)) here.2 ∙ x.3 in
-    subst (λ (us : List TokenForm). Begins primary_level us f rest) (sym here.1) (atom_by_found here.0 x.1 (comparison_at x.1) f rest refl named)
+    subst (λ (us : List TokenForm). Begins primary_level us f rest) (sym here.1) (by_argument x.0 here.0 here.2 x.1 y.0 y.1 (argument_found x.1 y.0 y.1 y.2) y.3)
+  where
+    by_argument : (n bytes : List ℕ) → cut_name bytes ≡ n → (us : List TokenForm) (a : Option (List ℕ)) (more : List TokenForm) → IsArgument a us more → atom_by n a more (comparison_at more) ≡ Ok (f, rest) → Begins primary_level (name bytes ∷ us) f rest
+    by_argument n bytes cut us None more same e =
+        subst (λ (vs : List TokenForm). Begins primary_level (name bytes ∷ vs) f rest) (sym same) (atom_by_found (name bytes ∷ []) n None (plain_makes bytes n cut) more (comparison_at more) f rest refl e)
+    by_argument n bytes cut us (Some x) more found e =
+        subst (λ (vs : List TokenForm). Begins primary_level (name bytes ∷ vs) f rest) (sym found.2)
+        (atom_by_found (name bytes ∷ argument found.0 []) n (Some x) (of_makes bytes found.0 n x cut found.1) more (comparison_at more) f rest refl e)
 
-closed_found : (whole : Reads) → Finds whole_level whole → (ts : List TokenForm) (f : RawTree) (rest : List TokenForm) → closed (whole ts) ≡ Ok (f, rest) → Begins primary_level (mark OpenParenthesis ∷ ts) f rest
-closed_found whole finds ts f rest e =
+-- the tokens of a formula and a parenthesis behind it
+closed_parts : (whole : Reads) → Finds whole_level whole → (ts : List TokenForm) (f : RawTree) (rest : List TokenForm) → closed (whole ts) ≡ Ok (f, rest)
+    → (us : List TokenForm) × SpellsFormula whole_level us f × (ts ≡ us ++ mark CloseParenthesis ∷ rest)
+closed_parts whole finds ts f rest e =
     let inner = and_then_ok (whole ts) (λ g more. read_as (λ _. g) (mark_at CloseParenthesis more)) f rest e in
     let end = read_as_ok (λ _. inner.0) (mark_at CloseParenthesis inner.1) f rest inner.3 in
     let part = finds ts inner.0 inner.1 inner.2 in
+    let tokens : ts ≡ part.0 ++ mark CloseParenthesis ∷ rest = part.2 ∙ ap (λ (us : List TokenForm). part.0 ++ us) (mark_at_is CloseParenthesis inner.1 end.0 rest end.1) in
+    (part.0, subst (λ (g : RawTree). SpellsFormula whole_level part.0 g) end.2 part.1, tokens)
+
+closed_found : (whole : Reads) → Finds whole_level whole → (ts : List TokenForm) (f : RawTree) (rest : List TokenForm) → closed (whole ts) ≡ Ok (f, rest) → Begins primary_level (mark OpenParenthesis ∷ ts) f rest
+closed_found whole finds ts f rest e =
+    let part = closed_parts whole finds ts f rest e in
     let tokens : mark OpenParenthesis ∷ ts ≡ (mark OpenParenthesis ∷ part.0 ++ mark CloseParenthesis ∷ []) ++ rest =
-    ap (λ (us : List TokenForm). mark OpenParenthesis ∷ us) (part.2 ∙ ap (λ (us : List TokenForm). part.0 ++ us) (mark_at_is CloseParenthesis inner.1 end.0 rest end.1) ∙ sym (append_assoc part.0 (mark CloseParenthesis ∷ []) rest)) in
-    same_formula primary_level (mark OpenParenthesis ∷ ts) inner.0 f rest end.2 (mark OpenParenthesis ∷ part.0 ++ mark CloseParenthesis ∷ [], in_parentheses part.1, tokens)
+    ap (λ (us : List TokenForm). mark OpenParenthesis ∷ us) (part.2 ∙ sym (append_assoc part.0 (mark CloseParenthesis ∷ []) rest)) in
+    (mark OpenParenthesis ∷ part.0 ++ mark CloseParenthesis ∷ [], in_parentheses part.1, tokens)
 
 primary_found : (whole : Reads) → Finds whole_level whole → Finds primary_level (primary_with whole)
 unfolding primary_with
@@ -181,6 +275,56 @@ primary_found whole finds ts f rest e =
                 | inr k ↦ atom_found ts f rest k.1
               ]
         ]
+
+-- ---- quantifiers
+
+-- the tokens between a quantifier and its formula
+abbrev IsHead : List ℕ × List ℕ → List TokenForm → List TokenForm → Type 0
+IsHead p ts rest = (x e : List ℕ) × (ts ≡ name x ∷ mark Colon ∷ name e ∷ further furthers.OpenArgument ∷ rest) × (p ≡ (cut_name x, cut_name e))
+
+head_found : (ts : List TokenForm) (p : List ℕ × List ℕ) (rest : List TokenForm) → head_at ts ≡ Ok (p, rest) → IsHead p ts rest
+unfolding head_at
+head_found ts p rest e =
+    let x = and_then_ok (name_at ts) (λ n us. and_then (mark_at Colon us) (λ _ vs. and_then (name_at vs) (λ k ws. read_as (λ _. (n, k)) (further_at furthers.OpenArgument ws)))) p rest e in
+    let y = and_then_ok (mark_at Colon x.1) (λ _ vs. and_then (name_at vs) (λ k ws. read_as (λ _. (x.0, k)) (further_at furthers.OpenArgument ws))) p rest x.3 in
+    let z = and_then_ok (name_at y.1) (λ k ws. read_as (λ _. (x.0, k)) (further_at furthers.OpenArgument ws)) p rest y.3 in
+    let w = read_as_ok (λ _. (x.0, z.0)) (further_at furthers.OpenArgument z.1) p rest z.3 in
+    let bound = name_found ts x.0 x.1 x.2 in
+    let entity = name_found y.1 z.0 z.1 z.2 in
+    let last = further_at_is furthers.OpenArgument z.1 w.0 rest w.1 in
+    let behind : x.1 ≡ mark Colon ∷ name entity.0 ∷ further furthers.OpenArgument ∷ rest =
+    mark_at_is Colon x.1 y.0 y.1 y.2 ∙ ap (λ (us : List TokenForm). mark Colon ∷ us) (entity.1 ∙ ap (λ (us : List TokenForm). name entity.0 ∷ us) last) in
+    (bound.0, entity.0, bound.1 ∙ ap (λ (us : List TokenForm). name bound.0 ∷ us) behind, sym w.2 ∙ sym (ap₂ (λ (n k : List ℕ). (n, k)) bound.2 entity.2))
+
+pub head_shorter : (ts : List TokenForm) (p : List ℕ × List ℕ) (rest : List TokenForm) → head_at ts ≡ Ok (p, rest) → length rest ≤ length ts
+head_shorter ts p rest e = let head = head_found ts p rest e in omega (arith, ap length head.2)
+
+quantified_found : (q : Further) (make : List ℕ → List ℕ → RawTree → RawTree)
+    → ((x e : List ℕ) (ts : List TokenForm) (f : RawTree) → SpellsFormula whole_level ts f → SpellsFormula prefix_level (further q ∷ name x ∷ mark Colon ∷ name e ∷ further furthers.OpenArgument ∷ ts ++ mark CloseParenthesis ∷ []) (make (cut_name x) (cut_name e) f))
+    → (whole : Reads) → Finds whole_level whole → (ts : List TokenForm) (f : RawTree) (rest : List TokenForm) → quantified_with make whole ts ≡ Ok (f, rest) → Begins prefix_level (further q ∷ ts) f rest
+unfolding quantified_with
+quantified_found q make makes whole finds ts f rest e =
+    let x = and_then_ok (head_at ts) (λ p inner. read_as (make p.0 p.1) (closed (whole inner))) f rest e in
+    let y = read_as_ok (make x.0.0 x.0.1) (closed (whole x.1)) f rest x.3 in
+    let head = head_found ts x.0 x.1 x.2 in
+    let part = closed_parts whole finds x.1 y.0 rest y.1 in
+    let tokens : further q ∷ ts ≡ (further q ∷ name head.0 ∷ mark Colon ∷ name head.1 ∷ further furthers.OpenArgument ∷ part.0 ++ mark CloseParenthesis ∷ []) ++ rest =
+    ap (λ (us : List TokenForm). further q ∷ us) (head.2 ∙ ap (λ (us : List TokenForm). name head.0 ∷ mark Colon ∷ name head.1 ∷ further furthers.OpenArgument ∷ us) (part.2 ∙ sym (append_assoc part.0 (mark CloseParenthesis ∷ []) rest))) in
+    let is : make (cut_name head.0) (cut_name head.1) y.0 ≡ f = ap (λ (p : List ℕ × List ℕ). make p.0 p.1 y.0) (sym head.3) ∙ y.2 in
+    same_formula prefix_level (further q ∷ ts) (make (cut_name head.0) (cut_name head.1) y.0) f rest is
+    (further q ∷ name head.0 ∷ mark Colon ∷ name head.1 ∷ further furthers.OpenArgument ∷ part.0 ++ mark CloseParenthesis ∷ [], makes head.0 head.1 part.0 y.0 part.1, tokens)
+
+simple_found : (whole : Reads) → Finds whole_level whole → Finds prefix_level (simple_with whole)
+unfolding simple_with
+simple_found whole finds ts f rest e =
+    elim (if_behind_cases (behind_further furthers.All ts) (quantified_with for_all whole) (if_behind (behind_further furthers.Some ts) (quantified_with for_some whole) (primary_with whole ts)) (Ok (f, rest)) e) [
+      | inl h ↦ subst (λ (us : List TokenForm). Begins prefix_level us f rest) (sym (further_is furthers.All ts h.0 h.1)) (quantified_found furthers.All for_all (λ x k us g s. a_universal x k s) whole finds h.0 f rest h.2)
+      | inr h ↦
+          elim (if_behind_cases (behind_further furthers.Some ts) (quantified_with for_some whole) (primary_with whole ts) (Ok (f, rest)) h.1) [
+            | inl k ↦ subst (λ (us : List TokenForm). Begins prefix_level us f rest) (sym (further_is furthers.Some ts k.0 k.1)) (quantified_found furthers.Some for_some (λ x k us g s. an_existential x k s) whole finds k.0 f rest k.2)
+            | inr k ↦ let part = primary_found whole finds ts f rest k.1 in (part.0, a_primary part.1, part.2)
+          ]
+    ]
 
 -- ---- operators of one operand
 
@@ -256,7 +400,7 @@ prefix_found prefix whole finds inside ts f rest e =
     by_opening x.0 x.1 (opening_found ts x.0 x.1 x.2) x.3
   where
     by_opening : (o : Option Opening) (more : List TokenForm) → Opens o ts more → prefix_behind prefix whole o more ≡ Ok (f, rest) → Begins prefix_level ts f rest
-    by_opening None more same e = let part = primary_found whole inside more f rest e in (part.0, a_primary part.1, same ∙ part.2)
+    by_opening None more same e = let part = simple_found whole inside more f rest e in (part.0, part.1, same ∙ part.2)
     by_opening (Some o) more front e =
         let x = read_as_ok (opened o) (prefix more) f rest e in
         let part = finds more x.0 rest x.1 in

@@ -2,35 +2,36 @@
 use Rattle.std.proofs.Common.{◌≡◌, ℕ, zero, suc, ◌<◌, ◌≤◌, List, [], ◌∷◌, length, Option, Some, None, Ok, Err, refl, sym, ap, ◌∙◌, length-append, arith}
 use Rattle.state_space.specs.declared.keyword.Keyword.{Keyword}
 use Rattle.state_space.specs.declared.keyword.Keyword.TheVariants as keywords
-use Rattle.model_text.specs.declared.token.Mark.TheVariants.{OpenParenthesis}
+use Rattle.model_text.specs.declared.token.Sign.TheVariants.{OpenParenthesis}
+use Rattle.model_text.specs.declared.token.Further.TheVariants as furthers
 use Rattle.model_text.specs.declared.formula_reader.Opening.{Opening}
 use Rattle.model_text.specs.declared.formula_reader.Joining.{Joining}
 use Rattle.model_text.specs.Tokens.{TokenForm}
-use Rattle.model_text.specs.RawTrees.{RawTree, truth, falsity, conj, disj, implies, iff, entails}
+use Rattle.model_text.specs.RawTrees.{RawTree, truth, falsity, conj, disj, implies, iff, entails, for_all, for_some}
 use Rattle.model_text.specs.FormulaGrammar.{Level, iff_level, implies_level, or_level, and_level, tempo_level, prefix_level}
-use Rattle.model_text.specs.Reading.{Reading, and_then, behind_keyword, behind_mark, name_at}
-use Rattle.model_text.specs.FormulaReading.{Reads, if_behind, read_as, atom_at, closed, primary_with, opening_at, opened, prefix_behind, prefix_with, joining_at, joined, tempo_behind, tempo_with, chain, and_with, or_with, with_right, implies_from, implies_with, iff_with, whole_with, prefix_at, iff_at, whole_at}
-use Rattle.model_text.proofs.FormulaTokens.{keyword_is, mark_is}
-use Rattle.model_text.proofs.FormulaFound.{Finds, opening_shorter, opening_none, joining_shorter, tempo_found, and_found, or_found, implies_found, iff_with_found, prefix_at_found}
+use Rattle.model_text.specs.Reading.{Reading, and_then, behind_keyword, behind_mark, behind_further, name_at}
+use Rattle.model_text.specs.FormulaReading.{Reads, if_behind, read_as, atom_at, closed, primary_with, head_at, quantified_with, simple_with, opening_at, opened, prefix_behind, prefix_with, joining_at, joined, tempo_behind, tempo_with, chain, and_with, or_with, with_right, implies_from, implies_with, iff_with, whole_with, prefix_at, iff_at, whole_at}
+use Rattle.model_text.proofs.FormulaTokens.{keyword_is, mark_is, further_is}
+use Rattle.model_text.proofs.FormulaFound.{Finds, head_shorter, opening_shorter, opening_none, joining_shorter, tempo_found, and_found, or_found, implies_found, iff_with_found, prefix_at_found}
 use Rattle.model_text.proofs.FormulaLaws.{some_token}
 
 -- two readers read the same of at most so many tokens
-abbrev AgreeTo : ℕ → (p q : Reads) → Type 0
+abbrev pub AgreeTo : ℕ → (p q : Reads) → Type 0
 AgreeTo k p q = (ts : List TokenForm) → length ts ≤ k → p ts ≡ q ts
 
-same_then : {A B : Type 0} (o : Reading A) (k l : A → List TokenForm → Reading B) → ((x : A) (more : List TokenForm) → o ≡ Ok (x, more) → k x more ≡ l x more) → and_then o k ≡ and_then o l
+pub same_then : {A B : Type 0} (o : Reading A) (k l : A → List TokenForm → Reading B) → ((x : A) (more : List TokenForm) → o ≡ Ok (x, more) → k x more ≡ l x more) → and_then o k ≡ and_then o l
 same_then (Ok x) k l e = e x.0 x.1 refl
 same_then (Err rest) k l e = refl
 
-same_behind : {B : Type 0} (o : Option (List TokenForm)) (go gone : List TokenForm → B) (otherwise other : B) → ((rest : List TokenForm) → o ≡ Some rest → go rest ≡ gone rest) → otherwise ≡ other → if_behind o go otherwise ≡ if_behind o gone other
+pub same_behind : {B : Type 0} (o : Option (List TokenForm)) (go gone : List TokenForm → B) (otherwise other : B) → ((rest : List TokenForm) → o ≡ Some rest → go rest ≡ gone rest) → otherwise ≡ other → if_behind o go otherwise ≡ if_behind o gone other
 same_behind (Some rest) go gone otherwise other e same = e rest refl
 same_behind None go gone otherwise other e same = same
 
 -- what is read takes a token
-shorter : (l : Level) (reader : Reads) → Finds l reader → (ts : List TokenForm) (f : RawTree) (rest : List TokenForm) → reader ts ≡ Ok (f, rest) → length rest < length ts
+pub shorter : (l : Level) (reader : Reads) → Finds l reader → (ts : List TokenForm) (f : RawTree) (rest : List TokenForm) → reader ts ≡ Ok (f, rest) → length rest < length ts
 shorter l reader finds ts f rest e = let part = finds ts f rest e in omega (arith, some_token part.1, ap length part.2, length-append part.0 rest)
 
-keyword_shorter : (k : Keyword) (ts rest : List TokenForm) → behind_keyword k ts ≡ Some rest → length rest < length ts
+pub keyword_shorter : (k : Keyword) (ts rest : List TokenForm) → behind_keyword k ts ≡ Some rest → length rest < length ts
 keyword_shorter k ts rest e = omega (arith, ap length (keyword_is k ts rest e))
 
 tempo_same : (k : ℕ) (p q : Reads) → Finds prefix_level p → AgreeTo k p q → AgreeTo k (tempo_with p) (tempo_with q)
@@ -75,7 +76,7 @@ or_same k p q finds agree ts h =
     (λ f rest e. chain_same keywords.Or disj and_level k (and_with p) (and_with q) found operands (length rest) f rest (omega (arith, shorter and_level (and_with p) found ts f rest e)))
     ∙ ap (λ (o : Reading RawTree). and_then o (λ f rest. chain (behind_keyword keywords.Or) disj (and_with q) (length rest) f rest)) (operands ts h)
 
-right_same : (make : RawTree → RawTree) (before : Keyword) (k : ℕ) (p q : Reads) → AgreeTo k p q → (f : RawTree) (ts : List TokenForm) → length ts ≤ k → with_right make p f ts (behind_keyword before ts) ≡ with_right make q f ts (behind_keyword before ts)
+pub right_same : (make : RawTree → RawTree) (before : Keyword) (k : ℕ) (p q : Reads) → AgreeTo k p q → (f : RawTree) (ts : List TokenForm) → length ts ≤ k → with_right make p f ts (behind_keyword before ts) ≡ with_right make q f ts (behind_keyword before ts)
 right_same make before k p q agree f ts h = by_rest (behind_keyword before ts) refl
   where
     by_rest : (o : Option (List TokenForm)) → behind_keyword before ts ≡ o → with_right make p f ts o ≡ with_right make q f ts o
@@ -99,11 +100,11 @@ implies_same : (k : ℕ) (p q : Reads) → Finds prefix_level p → AgreeTo k p 
 unfolding implies_with
 implies_same k p q finds agree ts h = implies_from_same k p q finds agree (length ts) ts h
 
-iff_same : (k : ℕ) (p q : Reads) → Finds prefix_level p → AgreeTo k p q → AgreeTo k (iff_with p) (iff_with q)
+pub iff_same : (k : ℕ) (p q : Reads) → Finds prefix_level p → AgreeTo k p q → AgreeTo k (iff_with p) (iff_with q)
 unfolding iff_with
 iff_same k p q finds agree ts h = let sides = implies_same k p q finds agree in sides_same iff keywords.Iff implies_level k (implies_with p) (implies_with q) (implies_with p) (implies_with q) (implies_found p finds) sides sides ts h
 
-whole_same : (k : ℕ) (p q : Reads) → Finds prefix_level p → AgreeTo k p q → AgreeTo k (whole_with p) (whole_with q)
+pub whole_same : (k : ℕ) (p q : Reads) → Finds prefix_level p → AgreeTo k p q → AgreeTo k (whole_with p) (whole_with q)
 unfolding whole_with
 whole_same k p q finds agree ts h = let sides = iff_same k p q finds agree in sides_same entails keywords.Entails iff_level k (iff_with p) (iff_with q) (iff_with p) (iff_with q) (iff_with_found p finds) sides sides ts h
 
@@ -117,16 +118,32 @@ primary_same k p q finds agree ts h =
     )
     )
 
-prefix_same : (k : ℕ) (p q : Reads) → Finds prefix_level p → AgreeTo k p q → AgreeTo (suc k) (prefix_with p (whole_with p)) (prefix_with q (whole_with q))
+quantified_same : (make : List ℕ → List ℕ → RawTree → RawTree) (k : ℕ) (p q : Reads) → Finds prefix_level p → AgreeTo k p q → (ts : List TokenForm) → length ts ≤ k → quantified_with make (whole_with p) ts ≡ quantified_with make (whole_with q) ts
+unfolding quantified_with
+quantified_same make k p q finds agree ts h =
+    same_then (head_at ts) (λ n inner. read_as (make n.0 n.1) (closed (whole_with p inner))) (λ n inner. read_as (make n.0 n.1) (closed (whole_with q inner)))
+    (λ n inner e. ap (λ (o : Reading RawTree). read_as (make n.0 n.1) (closed o)) (whole_same k p q finds agree inner (omega (arith, head_shorter ts n inner e))))
+
+simple_same : (k : ℕ) (p q : Reads) → Finds prefix_level p → AgreeTo k p q → (ts : List TokenForm) → length ts ≤ suc k → simple_with (whole_with p) ts ≡ simple_with (whole_with q) ts
+unfolding simple_with
+simple_same k p q finds agree ts h =
+    same_behind (behind_further furthers.All ts) (quantified_with for_all (whole_with p)) (quantified_with for_all (whole_with q)) _ _
+    (λ rest e. quantified_same for_all k p q finds agree rest (omega (arith, ap length (further_is furthers.All ts rest e)))) (
+    same_behind (behind_further furthers.Some ts) (quantified_with for_some (whole_with p)) (quantified_with for_some (whole_with q)) _ _
+    (λ rest e. quantified_same for_some k p q finds agree rest (omega (arith, ap length (further_is furthers.Some ts rest e))))
+    (primary_same k p q finds agree ts h)
+    )
+
+pub prefix_same : (k : ℕ) (p q : Reads) → Finds prefix_level p → AgreeTo k p q → AgreeTo (suc k) (prefix_with p (whole_with p)) (prefix_with q (whole_with q))
 unfolding prefix_with
 prefix_same k p q finds agree ts h = same_then (opening_at ts) (prefix_behind p (whole_with p)) (prefix_behind q (whole_with q)) by_opening
   where
     by_opening : (o : Option Opening) (more : List TokenForm) → opening_at ts ≡ Ok (o, more) → prefix_behind p (whole_with p) o more ≡ prefix_behind q (whole_with q) o more
-    by_opening None more e = primary_same k p q finds agree more (omega (arith, ap length (opening_none ts more e)))
+    by_opening None more e = simple_same k p q finds agree more (omega (arith, ap length (opening_none ts more e)))
     by_opening (Some o) more e = ap (λ (r : Reading RawTree). read_as (opened o) r) (agree more (omega (arith, opening_shorter ts o more e)))
 
 prefix_nothing : (n : ℕ) → prefix_at n [] ≡ Err []
-unfolding prefix_at prefix_with opening_at primary_with atom_at name_at
+unfolding prefix_at prefix_with opening_at simple_with primary_with atom_at name_at
 prefix_nothing zero = refl
 prefix_nothing (suc n) = refl
 
@@ -136,7 +153,7 @@ deeper k zero m le_n le_m below ts h = let never : ⊥ = omega arith in absurd n
 deeper k (suc n) zero le_n le_m below ts h = let never : ⊥ = omega arith in absurd never
 deeper k (suc n) (suc m) le_n le_m below ts h = prefix_same k (prefix_at n) (prefix_at m) (prefix_at_found n) (below n m (omega arith) (omega arith)) ts h
 
-prefix_fuel : (k n m : ℕ) → k ≤ n → k ≤ m → AgreeTo k (prefix_at n) (prefix_at m)
+pub prefix_fuel : (k n m : ℕ) → k ≤ n → k ≤ m → AgreeTo k (prefix_at n) (prefix_at m)
 prefix_fuel zero n m le_n le_m [] h = prefix_nothing n ∙ sym (prefix_nothing m)
 prefix_fuel zero n m le_n le_m (t ∷ ts) h = let never : ⊥ = omega arith in absurd never
 prefix_fuel (suc k) n m le_n le_m ts h = deeper k n m le_n le_m (prefix_fuel k) ts h

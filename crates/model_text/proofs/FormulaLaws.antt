@@ -3,7 +3,7 @@ use Rattle.std.proofs.Common.{◌≡◌, ℕ, ◌<◌, ◌≤◌, true, List, []
 use Rattle.std.proofs.lemmas.List.{append-nil}
 use Rattle.model_text.specs.Tokens.{TokenForm}
 use Rattle.model_text.specs.RawTrees.{RawTree}
-use Rattle.model_text.specs.FormulaGrammar.{Level, whole_level, iff_level, SpellsFormula, a_truth, a_falsity, in_parentheses, a_flag, a_comparison, a_choice, a_primary, a_negation, a_next, an_eventually, an_always, an_eventually_within, an_always_within, a_prefix, an_until, an_unless, a_release, an_until_within, an_unless_within, a_release_within, a_tempo, a_conjunction, a_conjunct, a_disjunction, a_disjunct, an_implication, a_side, an_equivalence, a_whole, an_entailment}
+use Rattle.model_text.specs.FormulaGrammar.{Level, whole_level, iff_level, SpellsFormula, a_truth, a_falsity, in_parentheses, a_flag, a_comparison, a_choice, a_flag_of, a_comparison_of, a_choice_of, a_universal, an_existential, a_primary, a_negation, a_next, an_eventually, an_always, an_eventually_within, an_always_within, a_prefix, an_until, an_unless, a_release, an_until_within, an_unless_within, a_release_within, a_tempo, a_conjunction, a_conjunct, a_disjunction, a_disjunct, an_implication, a_side, an_equivalence, a_whole, an_entailment}
 use Rattle.model_text.specs.FormulaReading.{prefix_at, iff_at, whole_at, ends_iff, ends_whole}
 use Rattle.model_text.proofs.FormulaTokens.{ok_parts}
 use Rattle.model_text.proofs.FormulaFound.{iff_with_found, whole_with_found, prefix_at_found}
@@ -44,7 +44,12 @@ some_token a_truth = omega arith
 some_token a_falsity = omega arith
 some_token (in_parentheses s) = omega arith
 some_token (a_flag x) = omega arith
-some_token (a_comparison x m r t v is e) = omega arith
+some_token (a_comparison x m r is s) = omega arith
+some_token (a_flag_of f x) = omega arith
+some_token (a_comparison_of f x m r is s) = omega arith
+some_token (a_choice_of f x s) = omega arith
+some_token (a_universal x e s) = omega arith
+some_token (an_existential x e s) = omega arith
 some_token (a_choice x s) = omega arith
 some_token (a_primary s) = some_token s
 some_token (a_negation s) = omega arith

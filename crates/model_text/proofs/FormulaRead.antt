@@ -3,19 +3,20 @@ use Rattle.std.proofs.Common.{◌≡◌, ℕ, zero, suc, ◌-◌, ◌<◌, ◌�
 use Rattle.std.specs.Prelude.{◌&&◌, is_none}
 use Rattle.state_space.specs.declared.keyword.Keyword.{Keyword}
 use Rattle.state_space.specs.declared.keyword.Keyword.TheVariants as keywords
-use Rattle.model_text.specs.declared.token.Mark.{Mark}
-use Rattle.model_text.specs.declared.token.Mark.TheVariants.{Comma, OpenParenthesis, CloseParenthesis, OpenBrace, CloseBrace}
+use Rattle.model_text.specs.declared.token.Sign.{Sign}
+use Rattle.model_text.specs.declared.token.Sign.TheVariants.{Colon, Comma, OpenParenthesis, CloseParenthesis, OpenBrace, CloseBrace}
 use Rattle.model_text.specs.declared.formula_reader.Opening.{Opening}
 use Rattle.model_text.specs.declared.formula_reader.Opening.TheVariants as openings
 use Rattle.model_text.specs.declared.formula_reader.Joining.{Joining}
 use Rattle.model_text.specs.declared.formula_reader.Joining.TheVariants as joinings
+use Rattle.model_text.specs.declared.token.Further.TheVariants as furthers
 use Rattle.temporal_logic.specs.Ltl.{Relation}
-use Rattle.model_text.specs.Tokens.{TokenForm, keyword, mark, name, number}
-use Rattle.model_text.specs.RawTrees.{WrittenValue, RawTree, truth, falsity, bare, compares, among, conj, disj, implies, iff, entails}
+use Rattle.model_text.specs.Tokens.{TokenForm, keyword, mark, name, number, further}
+use Rattle.model_text.specs.RawTrees.{WrittenValue, a_word, a_number, a_truth, an_attribute, RawTree, truth, falsity, bare, compares, among, bare_of, compares_of, among_of, conj, disj, implies, iff, entails, for_all, for_some}
 use Rattle.model_text.specs.Leaves.{cut_name, bound_value, relation_of, value_of}
-use Rattle.model_text.specs.FormulaGrammar.{Level, whole_level, iff_level, implies_level, or_level, and_level, tempo_level, prefix_level, primary_level, SpellsValues, one_value, more_values, SpellsFormula, a_truth, a_falsity, in_parentheses, a_flag, a_comparison, a_choice, a_primary, a_negation, a_next, an_eventually, an_always, an_eventually_within, an_always_within, a_prefix, an_until, an_unless, a_release, an_until_within, an_unless_within, a_release_within, a_tempo, a_conjunction, a_conjunct, a_disjunction, a_disjunct, an_implication, a_side, an_equivalence, a_whole, an_entailment}
-use Rattle.model_text.specs.Reading.{Reading, and_then, behind_keyword, behind_mark, name_at}
-use Rattle.model_text.specs.FormulaReading.{Reads, if_behind, read_as, bound_at, value_or_fault, value_at, with_rest, comparison_at, more_values_at, values_at, choice_at, atom_by, atom_at, primary_with, opening_at, opened, prefix_with, joining_at, joined, tempo_with, chain, and_with, or_with, with_right, implies_from, implies_with, iff_with, whole_with, prefix_at, ends_atom, ends_tempo, ends_and, ends_or, ends_implies, ends_iff, ends_whole}
+use Rattle.model_text.specs.FormulaGrammar.{Level, whole_level, iff_level, implies_level, or_level, and_level, tempo_level, prefix_level, primary_level, argument, SpellsValues, one_value, more_values, SpellsRight, a_value, an_attribute_value, SpellsFormula, a_truth, a_falsity, in_parentheses, a_flag, a_comparison, a_choice, a_flag_of, a_comparison_of, a_choice_of, a_universal, an_existential, a_primary, a_negation, a_next, an_eventually, an_always, an_eventually_within, an_always_within, a_prefix, an_until, an_unless, a_release, an_until_within, an_unless_within, a_release_within, a_tempo, a_conjunction, a_conjunct, a_disjunction, a_disjunct, an_implication, a_side, an_equivalence, a_whole, an_entailment}
+use Rattle.model_text.specs.Reading.{Reading, and_then, behind_keyword, behind_mark, behind_further, name_at}
+use Rattle.model_text.specs.FormulaReading.{Reads, if_behind, read_as, bound_at, value_or_fault, value_at, with_rest, comparison_at, more_values_at, values_at, choice_at, argument_at, right_behind, right_at, bare_with, compares_with, among_with, atom_by, atom_at, closed, primary_with, head_at, quantified_with, simple_with, opening_at, opened, prefix_with, joining_at, joined, tempo_with, chain, and_with, or_with, with_right, implies_from, implies_with, iff_with, whole_with, prefix_at, ends_atom, ends_tempo, ends_and, ends_or, ends_implies, ends_iff, ends_whole}
 use Rattle.model_text.proofs.FormulaTokens.{both_left, both_right, none_is}
 use Rattle.model_text.proofs.FormulaTurns.{chain_more, chain_done, values_more, values_done}
 
@@ -35,7 +36,7 @@ tempo_ended ts e =
     none_joins None (Some x) c p q r = absurd cc
     none_joins None None (Some x) p q r = absurd cc
 
-atom_of_tempo : (ts : List TokenForm) → ends_tempo ts ≡ true → ends_atom ts ≡ true
+pub atom_of_tempo : (ts : List TokenForm) → ends_tempo ts ≡ true → ends_atom ts ≡ true
 atom_of_tempo ts e = both_left (ends_atom ts) (is_none (behind_keyword keywords.Until ts) && (is_none (behind_keyword keywords.Unless ts) && is_none (behind_keyword keywords.Release ts))) e
 
 and_ended : (ts : List TokenForm) → ends_and ts ≡ true → behind_keyword keywords.And ts ≡ None
@@ -70,24 +71,45 @@ iff_of_whole ts e = both_left (ends_iff ts) (is_none (behind_keyword keywords.En
 
 -- ---- leaves
 
-flag_by : (x : List ℕ) (ts : List TokenForm) (o : Option (Relation × List TokenForm)) (i : Option (List TokenForm)) → o ≡ None → behind_keyword keywords.In ts ≡ i → i ≡ None → atom_by x ts o ≡ Ok (bare x, ts)
-flag_by x ts (Some compared) i e s k = absurd cc
-flag_by x ts None i e s k = let none = s ∙ k in rw none refl
+-- no name in brackets stands behind
+no_argument : (ts : List TokenForm) → ends_atom ts ≡ true → behind_further furthers.OpenArgument ts ≡ None
+no_argument ts e =
+    none_is (behind_further furthers.OpenArgument ts) (both_right (is_none (behind_keyword keywords.In ts)) (is_none (behind_further furthers.OpenArgument ts)) (both_right (is_none (comparison_at ts)) (is_none (behind_keyword keywords.In ts) && is_none (behind_further furthers.OpenArgument ts)) e))
 
-flag_read : (x : List ℕ) (ts : List TokenForm) → ends_atom ts ≡ true → atom_by x ts (comparison_at ts) ≡ Ok (bare x, ts)
-flag_read x ts e =
-    let compared = none_is (comparison_at ts) (both_left (is_none (comparison_at ts)) (is_none (behind_keyword keywords.In ts)) e) in
-    let chosen = none_is (behind_keyword keywords.In ts) (both_right (is_none (comparison_at ts)) (is_none (behind_keyword keywords.In ts)) e) in
-    flag_by x ts (comparison_at ts) (behind_keyword keywords.In ts) compared refl chosen
+argument_none : (ts : List TokenForm) → behind_further furthers.OpenArgument ts ≡ None → argument_at ts ≡ Ok (None, ts)
+unfolding argument_at
+argument_none ts e = rw e refl
+
+flag_by : (x : List ℕ) (a : Option (List ℕ)) (ts : List TokenForm) (o : Option (Relation × List TokenForm)) (i : Option (List TokenForm)) → o ≡ None → behind_keyword keywords.In ts ≡ i → i ≡ None → atom_by x a ts o ≡ Ok (bare_with x a, ts)
+flag_by x a ts (Some compared) i e s k = absurd cc
+flag_by x a ts None i e s k = let none = s ∙ k in rw none refl
+
+flag_read : (x : List ℕ) (a : Option (List ℕ)) (ts : List TokenForm) → ends_atom ts ≡ true → atom_by x a ts (comparison_at ts) ≡ Ok (bare_with x a, ts)
+flag_read x a ts e =
+    let others = is_none (behind_keyword keywords.In ts) && is_none (behind_further furthers.OpenArgument ts) in
+    let compared = none_is (comparison_at ts) (both_left (is_none (comparison_at ts)) others e) in
+    let chosen = none_is (behind_keyword keywords.In ts) (both_left (is_none (behind_keyword keywords.In ts)) (is_none (behind_further furthers.OpenArgument ts)) (both_right (is_none (comparison_at ts)) others e)) in
+    flag_by x a ts (comparison_at ts) (behind_keyword keywords.In ts) compared refl chosen
 
 pub value_read : (t : TokenForm) (v : WrittenValue) (rest : List TokenForm) → value_of t ≡ Some v → value_at (t ∷ rest) ≡ Ok (v, rest)
 unfolding value_at
 value_read t v rest e = ap (λ (o : Option WrittenValue). value_or_fault o t rest) e
 
-comparison_read : (x : List ℕ) (m : Mark) (r : Relation) (t : TokenForm) (v : WrittenValue) (rest : List TokenForm) → relation_of m ≡ Some r → value_of t ≡ Some v
-    → atom_by x (mark m ∷ t ∷ rest) (comparison_at (mark m ∷ t ∷ rest)) ≡ Ok (compares x r v, rest)
-comparison_read x m r t v rest is e =
-    ap (λ (o : Option Relation). atom_by x (mark m ∷ t ∷ rest) (with_rest o (t ∷ rest))) is ∙ ap (λ (o : Reading WrittenValue). read_as (λ w. compares x r w) o) (value_read t v rest e)
+value_behind : (v : WrittenValue) (rest : List TokenForm) → behind_further furthers.OpenArgument rest ≡ None → right_behind v rest ≡ Ok (v, rest)
+value_behind (a_word f) rest e = rw (argument_none rest e) refl
+value_behind (a_number n) rest e = refl
+value_behind (a_truth b) rest e = refl
+value_behind (an_attribute f x) rest e = refl
+
+right_read : {ts : List TokenForm} {v : WrittenValue} → SpellsRight ts v → (rest : List TokenForm) → behind_further furthers.OpenArgument rest ≡ None → right_at (ts ++ rest) ≡ Ok (v, rest)
+unfolding right_at value_at argument_at name_at
+right_read (a_value t v is) rest e = rw (value_read t v rest is) (value_behind v rest e)
+right_read (an_attribute_value f x) rest e = refl
+
+comparison_read : (x : List ℕ) (a : Option (List ℕ)) (m : Sign) (r : Relation) {ts : List TokenForm} {v : WrittenValue} (rest : List TokenForm) → relation_of m ≡ Some r → SpellsRight ts v → ends_atom rest ≡ true
+    → atom_by x a (mark m ∷ (ts ++ rest)) (comparison_at (mark m ∷ (ts ++ rest))) ≡ Ok (compares_with x a r v, rest)
+comparison_read x a m r {ts} rest is s e =
+    ap (λ (o : Option Relation). atom_by x a (mark m ∷ (ts ++ rest)) (with_rest o (ts ++ rest))) is ∙ ap (λ (o : Reading WrittenValue). read_as (compares_with x a r) o) (right_read s rest (no_argument rest e))
 
 -- a list of values, behind others
 abbrev ValuesRead : List TokenForm → List WrittenValue → Type 0
@@ -114,10 +136,10 @@ values_read (one_value t v is) rest ends = rw (value_read t v rest is) (values_d
 values_read (more_values t v ts vs is s) rest ends =
     rw (value_read t v (mark Comma ∷ (ts ++ rest)) is) (values_more (length (mark Comma ∷ (ts ++ rest))) (v ∷ []) (mark Comma ∷ (ts ++ rest)) (ts ++ rest) (omega arith) refl ∙ values_behind_read s rest ends (length (mark Comma ∷ (ts ++ rest)) - 1) (v ∷ []) (omega arith))
 
-choice_read : (x : List ℕ) {ts : List TokenForm} {vs : List WrittenValue} → SpellsValues ts vs → (rest : List TokenForm)
-    → atom_by x (keyword keywords.In ∷ mark OpenBrace ∷ (ts ++ mark CloseBrace ∷ rest)) (comparison_at (keyword keywords.In ∷ mark OpenBrace ∷ (ts ++ mark CloseBrace ∷ rest))) ≡ Ok (among x vs, rest)
+choice_read : (x : List ℕ) (a : Option (List ℕ)) {ts : List TokenForm} {vs : List WrittenValue} → SpellsValues ts vs → (rest : List TokenForm)
+    → atom_by x a (keyword keywords.In ∷ mark OpenBrace ∷ (ts ++ mark CloseBrace ∷ rest)) (comparison_at (keyword keywords.In ∷ mark OpenBrace ∷ (ts ++ mark CloseBrace ∷ rest))) ≡ Ok (among_with x a vs, rest)
 unfolding choice_at
-choice_read x {ts} s rest = rw (values_read s (mark CloseBrace ∷ rest) refl) refl
+choice_read x a {ts} s rest = rw (values_read s (mark CloseBrace ∷ rest) refl) refl
 
 -- ---- operators of one operand
 
@@ -131,7 +153,12 @@ no_bound a_truth rest = refl
 no_bound a_falsity rest = refl
 no_bound (in_parentheses s) rest = refl
 no_bound (a_flag x) rest = refl
-no_bound (a_comparison x m r t v is e) rest = refl
+no_bound (a_comparison x m r is s) rest = refl
+no_bound (a_flag_of f x) rest = refl
+no_bound (a_comparison_of f x m r is s) rest = refl
+no_bound (a_choice_of f x s) rest = refl
+no_bound (a_universal x e s) rest = refl
+no_bound (an_existential x e s) rest = refl
 no_bound (a_choice x s) rest = refl
 no_bound (a_primary s) rest = no_bound s rest
 no_bound (a_negation s) rest = refl
@@ -176,17 +203,17 @@ IsRead iff_level ts f = (d : ℕ) (rest : List TokenForm) → length (ts ++ rest
 IsRead whole_level ts f = (d : ℕ) (rest : List TokenForm) → length (ts ++ rest) ≤ d → ends_whole rest ≡ true → whole_with (prefix_at d) (ts ++ rest) ≡ Ok (f, rest)
 
 truth_read : IsRead primary_level (keyword keywords.True ∷ []) truth
-unfolding prefix_at prefix_with opening_at primary_with
+unfolding prefix_at prefix_with opening_at simple_with primary_with
 truth_read zero rest h e = let never : ⊥ = omega arith in absurd never
 truth_read (suc d) rest h e = refl
 
 falsity_read : IsRead primary_level (keyword keywords.False ∷ []) falsity
-unfolding prefix_at prefix_with opening_at primary_with
+unfolding prefix_at prefix_with opening_at simple_with primary_with
 falsity_read zero rest h e = let never : ⊥ = omega arith in absurd never
 falsity_read (suc d) rest h e = refl
 
 parentheses_read : (ts : List TokenForm) (f : RawTree) → IsRead whole_level ts f → IsRead primary_level (mark OpenParenthesis ∷ ts ++ mark CloseParenthesis ∷ []) f
-unfolding prefix_at prefix_with opening_at primary_with
+unfolding prefix_at prefix_with opening_at simple_with primary_with
 parentheses_read ts f read zero rest h e = let never : ⊥ = omega arith in absurd never
 parentheses_read ts f read (suc d) rest h e =
     let same : (ts ++ mark CloseParenthesis ∷ []) ++ rest ≡ ts ++ mark CloseParenthesis ∷ rest = append_assoc ts (mark CloseParenthesis ∷ []) rest in
@@ -194,21 +221,61 @@ parentheses_read ts f read (suc d) rest h e =
     rw inner refl
 
 flag_is_read : (x : List ℕ) → IsRead primary_level (name x ∷ []) (bare (cut_name x))
-unfolding prefix_at prefix_with opening_at primary_with atom_at name_at
+unfolding prefix_at prefix_with opening_at simple_with primary_with atom_at name_at
 flag_is_read x zero rest h e = let never : ⊥ = omega arith in absurd never
-flag_is_read x (suc d) rest h e = flag_read (cut_name x) rest e
+flag_is_read x (suc d) rest h e = rw (argument_none rest (no_argument rest e)) (flag_read (cut_name x) None rest e)
 
-comparison_is_read : (x : List ℕ) (m : Mark) (r : Relation) (t : TokenForm) (v : WrittenValue) → relation_of m ≡ Some r → value_of t ≡ Some v → IsRead primary_level (name x ∷ mark m ∷ t ∷ []) (compares (cut_name x) r v)
-unfolding prefix_at prefix_with opening_at primary_with atom_at name_at
-comparison_is_read x m r t v is v_is zero rest h e = let never : ⊥ = omega arith in absurd never
-comparison_is_read x m r t v is v_is (suc d) rest h e = comparison_read (cut_name x) m r t v rest is v_is
+comparison_is_read : (x : List ℕ) (m : Sign) (r : Relation) {ts : List TokenForm} {v : WrittenValue} → relation_of m ≡ Some r → SpellsRight ts v → IsRead primary_level (name x ∷ mark m ∷ ts) (compares (cut_name x) r v)
+unfolding prefix_at prefix_with opening_at simple_with primary_with atom_at argument_at name_at
+comparison_is_read x m r is s zero rest h e = let never : ⊥ = omega arith in absurd never
+comparison_is_read x m r is s (suc d) rest h e = comparison_read (cut_name x) None m r rest is s e
 
 choice_is_read : (x : List ℕ) {ts : List TokenForm} {vs : List WrittenValue} → SpellsValues ts vs → IsRead primary_level (name x ∷ keyword keywords.In ∷ mark OpenBrace ∷ ts ++ mark CloseBrace ∷ []) (among (cut_name x) vs)
-unfolding prefix_at prefix_with opening_at primary_with atom_at name_at
+unfolding prefix_at prefix_with opening_at simple_with primary_with atom_at argument_at name_at
 choice_is_read x s zero rest h e = let never : ⊥ = omega arith in absurd never
 choice_is_read x {ts} s (suc d) rest h e =
     let same = append_assoc ts (mark CloseBrace ∷ []) rest in
-    ap (λ (us : List TokenForm). atom_by (cut_name x) (keyword keywords.In ∷ mark OpenBrace ∷ us) (comparison_at (keyword keywords.In ∷ mark OpenBrace ∷ us))) same ∙ choice_read (cut_name x) s rest
+    ap (λ (us : List TokenForm). atom_by (cut_name x) None (keyword keywords.In ∷ mark OpenBrace ∷ us) (comparison_at (keyword keywords.In ∷ mark OpenBrace ∷ us))) same ∙ choice_read (cut_name x) None s rest
+
+flag_of_is_read : (f x : List ℕ) → IsRead primary_level (name f ∷ argument x []) (bare_of (cut_name f) (cut_name x))
+unfolding prefix_at prefix_with opening_at simple_with primary_with atom_at argument_at name_at
+flag_of_is_read f x zero rest h e = let never : ⊥ = omega arith in absurd never
+flag_of_is_read f x (suc d) rest h e = flag_read (cut_name f) (Some (cut_name x)) rest e
+
+comparison_of_is_read : (f x : List ℕ) (m : Sign) (r : Relation) {ts : List TokenForm} {v : WrittenValue} → relation_of m ≡ Some r → SpellsRight ts v → IsRead primary_level (name f ∷ argument x (mark m ∷ ts)) (compares_of (cut_name f) (cut_name x) r v)
+unfolding prefix_at prefix_with opening_at simple_with primary_with atom_at argument_at name_at
+comparison_of_is_read f x m r is s zero rest h e = let never : ⊥ = omega arith in absurd never
+comparison_of_is_read f x m r is s (suc d) rest h e = comparison_read (cut_name f) (Some (cut_name x)) m r rest is s e
+
+choice_of_is_read : (f x : List ℕ) {ts : List TokenForm} {vs : List WrittenValue} → SpellsValues ts vs → IsRead primary_level (name f ∷ argument x (keyword keywords.In ∷ mark OpenBrace ∷ ts ++ mark CloseBrace ∷ [])) (among_of (cut_name f) (cut_name x) vs)
+unfolding prefix_at prefix_with opening_at simple_with primary_with atom_at argument_at name_at
+choice_of_is_read f x s zero rest h e = let never : ⊥ = omega arith in absurd never
+choice_of_is_read f x {ts} s (suc d) rest h e =
+    let same = append_assoc ts (mark CloseBrace ∷ []) rest in
+    ap (λ (us : List TokenForm). atom_by (cut_name f) (Some (cut_name x)) (keyword keywords.In ∷ mark OpenBrace ∷ us) (comparison_at (keyword keywords.In ∷ mark OpenBrace ∷ us))) same ∙ choice_read (cut_name f) (Some (cut_name x)) s rest
+
+-- the formula behind a quantifier, its bound name and its type
+body_read : (ts : List TokenForm) (f : RawTree) → IsRead whole_level ts f → (d : ℕ) (rest : List TokenForm) → length (ts ++ mark CloseParenthesis ∷ rest) ≤ d → closed (whole_with (prefix_at d) ((ts ++ mark CloseParenthesis ∷ []) ++ rest)) ≡ Ok (f, rest)
+body_read ts f read d rest h =
+    let same : (ts ++ mark CloseParenthesis ∷ []) ++ rest ≡ ts ++ mark CloseParenthesis ∷ rest = append_assoc ts (mark CloseParenthesis ∷ []) rest in
+    let inner : whole_with (prefix_at d) ((ts ++ mark CloseParenthesis ∷ []) ++ rest) ≡ Ok (f, mark CloseParenthesis ∷ rest) = ap (whole_with (prefix_at d)) same ∙ read d (mark CloseParenthesis ∷ rest) h refl in
+    rw inner refl
+
+universal_is_read : (x k : List ℕ) (ts : List TokenForm) (f : RawTree) → IsRead whole_level ts f
+    → IsRead prefix_level (further furthers.All ∷ name x ∷ mark Colon ∷ name k ∷ further furthers.OpenArgument ∷ ts ++ mark CloseParenthesis ∷ []) (for_all (cut_name x) (cut_name k) f)
+unfolding prefix_at prefix_with opening_at simple_with quantified_with head_at name_at
+universal_is_read x k ts f read zero rest h e = let never : ⊥ = omega arith in absurd never
+universal_is_read x k ts f read (suc d) rest h e =
+    let short : length (ts ++ mark CloseParenthesis ∷ rest) ≤ d = omega (arith, ap length (append_assoc ts (mark CloseParenthesis ∷ []) rest)) in
+    rw (body_read ts f read d rest short) refl
+
+existential_is_read : (x k : List ℕ) (ts : List TokenForm) (f : RawTree) → IsRead whole_level ts f
+    → IsRead prefix_level (further furthers.Some ∷ name x ∷ mark Colon ∷ name k ∷ further furthers.OpenArgument ∷ ts ++ mark CloseParenthesis ∷ []) (for_some (cut_name x) (cut_name k) f)
+unfolding prefix_at prefix_with opening_at simple_with quantified_with head_at name_at
+existential_is_read x k ts f read zero rest h e = let never : ⊥ = omega arith in absurd never
+existential_is_read x k ts f read (suc d) rest h e =
+    let short : length (ts ++ mark CloseParenthesis ∷ rest) ≤ d = omega (arith, ap length (append_assoc ts (mark CloseParenthesis ∷ []) rest)) in
+    rw (body_read ts f read d rest short) refl
 
 -- an operator with its bound, before an operand
 opening_is_read : (front : List TokenForm) (o : Opening) (ts : List TokenForm) (f : RawTree) → 0 < length front
@@ -383,7 +450,12 @@ spelled_read a_truth = truth_read
 spelled_read a_falsity = falsity_read
 spelled_read (in_parentheses s) = parentheses_read _ _ (spelled_read s)
 spelled_read (a_flag x) = flag_is_read x
-spelled_read (a_comparison x m r t v is e) = comparison_is_read x m r t v is e
+spelled_read (a_comparison x m r is s) = comparison_is_read x m r is s
+spelled_read (a_flag_of f x) = flag_of_is_read f x
+spelled_read (a_comparison_of f x m r is s) = comparison_of_is_read f x m r is s
+spelled_read (a_choice_of f x s) = choice_of_is_read f x s
+spelled_read (a_universal x k s) = universal_is_read x k _ _ (spelled_read s)
+spelled_read (an_existential x k s) = existential_is_read x k _ _ (spelled_read s)
 spelled_read (a_choice x s) = choice_is_read x s
 spelled_read (a_primary s) = spelled_read s
 spelled_read (a_negation {ts} {f} s) = opening_is_read (keyword keywords.Not ∷ []) openings.Not ts f (omega arith) (λ rest. not_at (ts ++ rest)) (spelled_read s)

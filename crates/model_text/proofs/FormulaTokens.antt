@@ -5,17 +5,19 @@ use Rattle.std.proofs.lemmas.Bool.{eqb-true}
 use Rattle.state_space.specs.declared.keyword.Keyword.{Keyword}
 use Rattle.state_space.specs.declared.keyword.Keyword.TheVariants as keys
 use Rattle.state_space.specs.Keywords.{number as keyword_number}
-use Rattle.model_text.specs.declared.token.Mark.{Mark}
-use Rattle.model_text.specs.declared.token.Mark.TheVariants as signs
-use Rattle.model_text.specs.Tokens.{TokenForm, keyword, mark, number_of}
-use Rattle.model_text.specs.Reading.{Reading, and_then, behind_keyword, behind_mark, required, mark_at}
+use Rattle.model_text.specs.declared.token.Sign.{Sign}
+use Rattle.model_text.specs.declared.token.Sign.TheVariants as signs
+use Rattle.model_text.specs.declared.token.Further.{Further}
+use Rattle.model_text.specs.declared.token.Further.TheVariants as furthers
+use Rattle.model_text.specs.Tokens.{TokenForm, keyword, mark, further, number_of, further_number}
+use Rattle.model_text.specs.Reading.{Reading, and_then, behind_keyword, behind_mark, behind_further, required, mark_at, further_at}
 use Rattle.model_text.specs.FormulaReading.{if_behind, read_as}
 
 -- the keywords and the signs in the order of their places
 keyword_list : List Keyword
 keyword_list = keys.Kaos ∷ keys.Var ∷ keys.Domain ∷ keys.Rule ∷ keys.Goal ∷ keys.Obstacle ∷ keys.Refine ∷ keys.Obstruct ∷ keys.Conflict ∷ keys.Agent ∷ keys.Assign ∷ keys.Expect ∷ keys.Operation ∷ keys.Require ∷ keys.Operationalise ∷ keys.Trace ∷ keys.Bool ∷ keys.By ∷ keys.Using ∷ keys.Boundary ∷ keys.Monitors ∷ keys.Controls ∷ keys.To ∷ keys.Of ∷ keys.Dompre ∷ keys.Dompost ∷ keys.On ∷ keys.Pre ∷ keys.Trig ∷ keys.Post ∷ keys.Exact ∷ keys.Loop ∷ keys.Entails ∷ keys.Iff ∷ keys.Implies ∷ keys.Or ∷ keys.And ∷ keys.Until ∷ keys.Unless ∷ keys.Release ∷ keys.Within ∷ keys.Not ∷ keys.Next ∷ keys.Eventually ∷ keys.Always ∷ keys.In ∷ keys.True ∷ keys.False ∷ []
 
-mark_list : List Mark
+mark_list : List Sign
 mark_list = signs.Semicolon ∷ signs.Colon ∷ signs.Comma ∷ signs.OpenParenthesis ∷ signs.CloseParenthesis ∷ signs.OpenBrace ∷ signs.CloseBrace ∷ signs.Equal ∷ signs.NotEqual ∷ signs.Below ∷ signs.AtMost ∷ signs.Above ∷ signs.AtLeast ∷ signs.Dots ∷ []
 
 keyword_back : (k : Keyword) → get_or keyword_list (keyword_number k) keys.Kaos ≡ k
@@ -69,7 +71,7 @@ keyword_back keys.In = refl
 keyword_back keys.True = refl
 keyword_back keys.False = refl
 
-mark_back : (m : Mark) → get_or mark_list (number_of m) signs.Semicolon ≡ m
+mark_back : (m : Sign) → get_or mark_list (number_of m) signs.Semicolon ≡ m
 unfolding mark_list
 mark_back signs.Semicolon = refl
 mark_back signs.Colon = refl
@@ -86,10 +88,24 @@ mark_back signs.Above = refl
 mark_back signs.AtLeast = refl
 mark_back signs.Dots = refl
 
+further_list : List Further
+further_list = furthers.Entity ∷ furthers.Attr ∷ furthers.All ∷ furthers.Some ∷ furthers.OpenArgument ∷ []
+
+further_back : (f : Further) → get_or further_list (further_number f) furthers.Entity ≡ f
+unfolding further_list
+further_back furthers.Entity = refl
+further_back furthers.Attr = refl
+further_back furthers.All = refl
+further_back furthers.Some = refl
+further_back furthers.OpenArgument = refl
+
+same_further : (a b : Further) → further_number a ≡ further_number b → a ≡ b
+same_further a b e = sym (further_back a) ∙ ap (λ (n : ℕ). get_or further_list n furthers.Entity) e ∙ further_back b
+
 same_keyword : (a b : Keyword) → keyword_number a ≡ keyword_number b → a ≡ b
 same_keyword a b e = sym (keyword_back a) ∙ ap (λ (n : ℕ). get_or keyword_list n keys.Kaos) e ∙ keyword_back b
 
-same_mark : (a b : Mark) → number_of a ≡ number_of b → a ≡ b
+same_mark : (a b : Sign) → number_of a ≡ number_of b → a ≡ b
 same_mark a b e = sym (mark_back a) ∙ ap (λ (n : ℕ). get_or mark_list n signs.Semicolon) e ∙ mark_back b
 
 some_if : (b : Bool) (ts rest : List TokenForm) → (if b then Some ts else None) ≡ Some rest → (b ≡ true) × (ts ≡ rest)
@@ -104,13 +120,21 @@ keyword_is wanted (keyword found ∷ ts) rest e =
     ap (λ (k : Keyword). keyword k ∷ ts) same ∙ ap (λ (us : List TokenForm). keyword wanted ∷ us) p.1
 keyword_is wanted (t ∷ ts) rest e = absurd cc
 
-pub mark_is : (wanted : Mark) (ts rest : List TokenForm) → behind_mark wanted ts ≡ Some rest → ts ≡ mark wanted ∷ rest
+pub mark_is : (wanted : Sign) (ts rest : List TokenForm) → behind_mark wanted ts ≡ Some rest → ts ≡ mark wanted ∷ rest
 mark_is wanted [] rest e = absurd cc
 mark_is wanted (mark found ∷ ts) rest e =
     let p = some_if (number_of found == number_of wanted) ts rest e in
     let same = same_mark found wanted (eqb-true (number_of found) (number_of wanted) p.0) in
-    ap (λ (m : Mark). mark m ∷ ts) same ∙ ap (λ (us : List TokenForm). mark wanted ∷ us) p.1
+    ap (λ (m : Sign). mark m ∷ ts) same ∙ ap (λ (us : List TokenForm). mark wanted ∷ us) p.1
 mark_is wanted (t ∷ ts) rest e = absurd cc
+
+pub further_is : (wanted : Further) (ts rest : List TokenForm) → behind_further wanted ts ≡ Some rest → ts ≡ further wanted ∷ rest
+further_is wanted [] rest e = absurd cc
+further_is wanted (further found ∷ ts) rest e =
+    let p = some_if (further_number found == further_number wanted) ts rest e in
+    let same = same_further found wanted (eqb-true (further_number found) (further_number wanted) p.0) in
+    ap (λ (f : Further). further f ∷ ts) same ∙ ap (λ (us : List TokenForm). further wanted ∷ us) p.1
+further_is wanted (t ∷ ts) rest e = absurd cc
 
 -- ---- the parts of what was read
 
@@ -144,12 +168,19 @@ pub if_behind_cases : {B : Type 0} (o : Option (List TokenForm)) (go : List Toke
 if_behind_cases (Some rest) go otherwise y e = inl (rest, refl, e)
 if_behind_cases None go otherwise y e = inr (refl, e)
 
-pub mark_at_is : (wanted : Mark) (ts : List TokenForm) (x : Unit {0}) (rest : List TokenForm) → mark_at wanted ts ≡ Ok (x, rest) → ts ≡ mark wanted ∷ rest
+pub mark_at_is : (wanted : Sign) (ts : List TokenForm) (x : Unit {0}) (rest : List TokenForm) → mark_at wanted ts ≡ Ok (x, rest) → ts ≡ mark wanted ∷ rest
 mark_at_is wanted ts x rest e = required_is (behind_mark wanted ts) refl e
   where
     required_is : (o : Option (List TokenForm)) → behind_mark wanted ts ≡ o → required o ts ≡ Ok (x, rest) → ts ≡ mark wanted ∷ rest
     required_is None is e = absurd cc
     required_is (Some more) is e = mark_is wanted ts more is ∙ ap (λ (us : List TokenForm). mark wanted ∷ us) (ok_parts tt x more rest e).1
+
+pub further_at_is : (wanted : Further) (ts : List TokenForm) (x : Unit {0}) (rest : List TokenForm) → further_at wanted ts ≡ Ok (x, rest) → ts ≡ further wanted ∷ rest
+further_at_is wanted ts x rest e = required_is (behind_further wanted ts) refl e
+  where
+    required_is : (o : Option (List TokenForm)) → behind_further wanted ts ≡ o → required o ts ≡ Ok (x, rest) → ts ≡ further wanted ∷ rest
+    required_is None is e = absurd cc
+    required_is (Some more) is e = further_is wanted ts more is ∙ ap (λ (us : List TokenForm). further wanted ∷ us) (ok_parts tt x more rest e).1
 
 -- ---- tests
 

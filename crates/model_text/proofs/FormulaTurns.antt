@@ -1,15 +1,15 @@
 -- Reading a formula, a turn at a time.
 use Rattle.std.proofs.Common.{◌≡◌, ℕ, zero, suc, ◌-◌, ◌<◌, ◌≤◌, List, [], ◌∷◌, ◌++◌, length, Option, Some, None, Ok, Err, refl, ap, arith}
 use Rattle.state_space.specs.declared.keyword.Keyword.TheVariants as keywords
-use Rattle.model_text.specs.declared.token.Mark.TheVariants.{Comma}
-use Rattle.model_text.specs.Tokens.{TokenForm, keyword, mark, name, number, stray, bad_byte}
+use Rattle.model_text.specs.declared.token.Sign.TheVariants.{Comma}
+use Rattle.model_text.specs.Tokens.{TokenForm, keyword, mark, name, number, further, stray, bad_byte}
 use Rattle.model_text.specs.RawTrees.{WrittenValue, a_word, RawTree}
 use Rattle.model_text.specs.Reading.{and_then, behind_keyword, behind_mark, name_at}
-use Rattle.model_text.specs.FormulaReading.{Reads, read_as, number_behind, value_at, more_values_at, opening_at, atom_at, primary_with, prefix_with, chain, or_with, implies_from, prefix_at, whole_at}
+use Rattle.model_text.specs.FormulaReading.{Reads, read_as, number_behind, value_at, more_values_at, opening_at, atom_at, primary_with, simple_with, prefix_with, chain, or_with, implies_from, prefix_at, whole_at}
 
 -- a level of constructs down
 pub prefix_step : (depth : ℕ) (ts : List TokenForm) → length ts ≤ depth → prefix_at depth ts ≡ prefix_with (prefix_at (depth - 1)) (whole_at (depth - 1)) ts
-unfolding prefix_at whole_at prefix_with opening_at primary_with atom_at name_at
+unfolding prefix_at whole_at prefix_with opening_at simple_with primary_with atom_at name_at
 prefix_step zero [] h = refl
 prefix_step zero (t ∷ ts) h = let never : ⊥ = omega arith in absurd never
 prefix_step (suc d) ts h = let e : d ≡ suc d - 1 = omega arith in ap (λ (k : ℕ). prefix_with (prefix_at k) (whole_at k) ts) e
@@ -51,6 +51,7 @@ value_by_name (keyword k ∷ ts) t f n = refl
 value_by_name (mark m ∷ ts) t f n = refl
 value_by_name (name x ∷ ts) t f n = refl
 value_by_name (number s d ∷ ts) t f n = absurd cc
+value_by_name (further f ∷ ts) t e n = refl
 value_by_name (stray ∷ ts) t f n = refl
 value_by_name (bad_byte ∷ ts) t f n = refl
 

@@ -2,7 +2,7 @@
 use Rattle.std.proofs.Common.{◌≡◌, ◌<◌, true, arith}
 use Rattle.std.specs.Prelude.{nat_lt}
 use Rattle.std.proofs.lemmas.Bool.Decides.{nat_tests}
-use Rattle.model_text.specs.RawTrees.{RawTree, truth, falsity, bare, compares, among, neg, next, eventually, always, eventually_within, always_within, conj, disj, implies, iff, entails, until, unless, release, until_within, unless_within, release_within}
+use Rattle.model_text.specs.RawTrees.{RawTree, truth, falsity, bare, compares, among, bare_of, compares_of, among_of, neg, next, eventually, always, eventually_within, always_within, conj, disj, implies, iff, entails, until, unless, release, until_within, unless_within, release_within, for_all, for_some}
 use Rattle.model_text.specs.Limits.{depth_of}
 
 some_level : (f : RawTree) → 0 < depth_of f
@@ -11,6 +11,11 @@ some_level falsity = omega arith
 some_level (bare x) = omega arith
 some_level (compares x r v) = omega arith
 some_level (among x vs) = omega arith
+some_level (bare_of f x) = omega arith
+some_level (compares_of f x r v) = omega arith
+some_level (among_of f x vs) = omega arith
+some_level (for_all x e a) = omega arith
+some_level (for_some x e a) = omega arith
 some_level (neg a) = omega arith
 some_level (next a) = omega arith
 some_level (eventually a) = omega arith

@@ -1,6 +1,5 @@
 pub mod Steps
 pub mod CutNames
-pub mod DigitValues
 pub mod Turns
 pub mod FormulaTokens
 pub mod FormulaTurns
@@ -29,5 +28,12 @@ pub mod LaidTokens
 pub mod ReadTokens
 pub mod WritableTokens
 pub mod SmallNumbers
+pub mod SecondTokens
+pub mod PlainTokens
+pub mod ReaderLaws
+pub mod TokenJudged
+pub mod FormulaJudged
+pub mod StatementJudged
+pub mod TextJudged
 pub mod WrittenTexts
 pub mod OperatorCounts

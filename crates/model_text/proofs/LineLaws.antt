@@ -3,7 +3,7 @@ use Rattle.std.proofs.Common.{◌≡◌, ℕ, ◌+◌, ◌-◌, ◌<◌, Bool, t
 use Rattle.std.proofs.lemmas.List.{append-nil, flat_map_more, take_more, take_all}
 use Rattle.std.proofs.lemmas.Simd.{map-map}
 use Rattle.model_text.specs.declared.raw_formula.RawValue.{RawValue}
-use Rattle.model_text.specs.RawSeen.{written}
+use Rattle.model_text.specs.RawView.{written}
 use Rattle.std.specs.Prelude.{ℤ, pos, negsuc, flat_map, map}
 use Rattle.std.specs.Fmt.{signed_decimal}
 use Rattle.state_space.specs.declared.keyword.Keyword.{Keyword}
@@ -13,7 +13,7 @@ use Rattle.model_text.specs.declared.statement.RawState.{RawState}
 use Rattle.model_text.specs.Statements.{StatementForm, settings_of, statement_of, all_statements}
 use Rattle.model_text.specs.StatementReading.{setting_of}
 use Rattle.model_text.specs.Tokens.{TokenForm, keyword, mark}
-use Rattle.model_text.specs.declared.token.Mark.TheVariants.{Comma, Semicolon}
+use Rattle.model_text.specs.declared.token.Sign.TheVariants.{Comma, Semicolon}
 use Rattle.model_text.specs.Layout.{written_statement, written_text, laid, gap, token_bytes, holds_on}
 use Rattle.model_text.specs.Writing.{statement_tokens, number_token, value_token, separated, names_tokens, values_tokens, part_tokens, set_tokens, state_tokens}
 use Rattle.model_text.specs.Lines.{LineForm, with_bytes, with_token, with_tokens, behind_commas}

@@ -4,7 +4,7 @@ use Rattle.std.proofs.lemmas.List.{append-nil}
 use Rattle.std.proofs.lemmas.Bool.Decides.{nat_tests}
 use Rattle.std.specs.Prelude.{if◌then◌else◌, nat_le}
 use Rattle.state_space.specs.declared.keyword.Keyword.TheVariants as keywords
-use Rattle.model_text.specs.declared.token.Mark.TheVariants.{Semicolon, Comma}
+use Rattle.model_text.specs.declared.token.Sign.TheVariants.{Semicolon, Comma}
 use Rattle.model_text.specs.declared.statement.Role.{Role}
 use Rattle.model_text.specs.declared.statement.Role.TheVariants as roles
 use Rattle.model_text.specs.Tokens.{TokenForm, keyword, mark, name}
@@ -17,7 +17,7 @@ use Rattle.model_text.specs.Grammar.{SpellsNames, one_name, more_names, SpellsPa
 use Rattle.model_text.specs.StatementReading.{pattern_at, refinement_at, obstruction_at, if_several, several_at, conflict_at, agent_at, assignment_at, expectation_at, operation_at, role_at, requirement_at, exact_at, operationalisation_at}
 use Rattle.model_text.proofs.FormulaTokens.{ok_parts}
 use Rattle.model_text.proofs.PartLaws.{Found, Finds, IsName, is_name, IsNothing, is_nothing, Never, never, Both, both, Made, made, Behind, here, other, finds_as, finds_name, finds_nothing, finds_nowhere, finds_after, finds_counted, finds_word}
-use Rattle.model_text.proofs.NameLaws.{names_found, names_read, IsLabel, is_label, label_found, IsPair, is_pair, pair_found, IsGroup, is_group, group_found, part_found, body_found, IsBodyBehind, is_body_behind, body_behind_found}
+use Rattle.model_text.proofs.NameLaws.{names_found, names_read, IsLabel, is_declared_name, declared_name_found, IsPair, is_pair, pair_found, IsGroup, is_group, group_found, part_found, body_found, IsBodyBehind, is_body_behind, body_behind_found}
 
 -- ---- goals
 
@@ -69,11 +69,11 @@ unfolding several_at
 several_found = finds_as (λ us xs s. several_spelled s) (finds_after names_found (λ xs. record { found = if_several-ok xs }))
 
 conflict_spelled : {us : List TokenForm} {s : StatementForm} → Both IsLabel (λ x. Both IsSeveral (λ xs. Made (conflict x xs) (IsBodyBehind keywords.Boundary))) us s → SpellsStatement (keyword keywords.Conflict ∷ us) s
-conflict_spelled (both (is_label x) (both (is_several y n) (made (is_body_behind f)))) = a_conflict x y n f
+conflict_spelled (both (is_declared_name x) (both (is_several y n) (made (is_body_behind f)))) = a_conflict x y n f
 
 pub conflict_at-ok : Finds (λ us s. SpellsStatement (keyword keywords.Conflict ∷ us) s) conflict_at
 unfolding conflict_at
-conflict_at-ok = finds_as (λ us s p. conflict_spelled p) (finds_after label_found (λ x. finds_after several_found (λ xs. finds_counted (conflict x xs) (body_behind_found keywords.Boundary))))
+conflict_at-ok = finds_as (λ us s p. conflict_spelled p) (finds_after declared_name_found (λ x. finds_after several_found (λ xs. finds_counted (conflict x xs) (body_behind_found keywords.Boundary))))
 
 -- ---- agents
 

@@ -4,7 +4,7 @@ use Rattle.std.proofs.lemmas.Bool.{eq-eqb}
 use Rattle.state_space.specs.declared.keyword.Keyword.{Keyword}
 use Rattle.state_space.specs.declared.keyword.Keyword.TheVariants as keywords
 use Rattle.state_space.specs.Keywords.{number as keyword_number}
-use Rattle.model_text.specs.declared.token.Mark.TheVariants.{Colon, Comma}
+use Rattle.model_text.specs.declared.token.Sign.TheVariants.{Colon, Comma}
 use Rattle.model_text.specs.Tokens.{TokenForm, keyword, mark, name}
 use Rattle.model_text.specs.RawTrees.{RawTree}
 use Rattle.model_text.specs.Leaves.{cut_name}
@@ -13,9 +13,9 @@ use Rattle.model_text.specs.FormulaReading.{ends_iff, ends_whole}
 use Rattle.model_text.specs.Grammar.{SpellsNames, one_name, more_names, SpellsPart, no_part, a_part}
 use Rattle.model_text.specs.Reading.{and_then, behind_mark, behind_keyword, name_at}
 use Rattle.model_text.specs.Readers.{after, counted, if_word, more_at, listed_at}
-use Rattle.model_text.specs.StatementReading.{names_at, label_at, pair_at, group_at, part_at, body_at, side_at, body_behind}
+use Rattle.model_text.specs.StatementReading.{names_at, declared_name_at, pair_at, group_at, part_at, body_at, side_at, body_behind}
 use Rattle.model_text.proofs.FormulaLaws.{whole_found, whole_read, iff_found, iff_read}
-use Rattle.model_text.proofs.PartLaws.{Finds, IsKeyword, is_keyword, IsMark, is_mark, IsName, is_name, IsNothing, is_nothing, Both, both, Made, made, Behind, here, other, More, no_more, one_more, finds_as, finds_keyword, finds_mark, finds_name, finds_nothing, finds_after, finds_counted, finds_word, finds_listed}
+use Rattle.model_text.proofs.PartLaws.{Finds, IsKeyword, is_keyword, IsSign, is_mark, IsName, is_name, IsNothing, is_nothing, Both, both, Made, made, Behind, here, other, More, no_more, one_more, finds_as, finds_keyword, finds_mark, finds_name, finds_nothing, finds_after, finds_counted, finds_word, finds_listed}
 use Rattle.model_text.proofs.Turns.{more_more, more_done}
 
 -- ---- names
@@ -49,14 +49,14 @@ names_read (more_names x {ts = ts} {xs = xs} s) rest ends =
 -- ---- what stands round names
 
 pub data IsLabel : List TokenForm → List ℕ → Type 0 where
-  is_label : (x : List ℕ) → IsLabel (name x ∷ mark Colon ∷ []) (cut_name x)
+  is_declared_name : (x : List ℕ) → IsLabel (name x ∷ mark Colon ∷ []) (cut_name x)
 
-label_spelled : {us : List TokenForm} {x : List ℕ} → Both IsName (λ x. Made (λ _. x) (IsMark Colon)) us x → IsLabel us x
-label_spelled (both (is_name x) (made (is_mark u))) = is_label x
+declared_name_spelled : {us : List TokenForm} {x : List ℕ} → Both IsName (λ x. Made (λ _. x) (IsSign Colon)) us x → IsLabel us x
+declared_name_spelled (both (is_name x) (made (is_mark u))) = is_declared_name x
 
-pub label_found : Finds IsLabel label_at
-unfolding label_at
-label_found = finds_as (λ us x s. label_spelled s) (finds_after finds_name (λ x. finds_counted (λ _. x) (finds_mark Colon)))
+pub declared_name_found : Finds IsLabel declared_name_at
+unfolding declared_name_at
+declared_name_found = finds_as (λ us x s. declared_name_spelled s) (finds_after finds_name (λ x. finds_counted (λ _. x) (finds_mark Colon)))
 
 pub data IsPair (between : Keyword) : List TokenForm → List ℕ × List ℕ → Type 0 where
   is_pair : (x y : List ℕ) → IsPair between (name x ∷ keyword between ∷ name y ∷ []) (cut_name x, cut_name y)

@@ -4,20 +4,22 @@ use Rattle.std.specs.Prelude.{max, nat_le, pos, negsuc, map, flat_map, if◌then
 use Rattle.state_space.specs.declared.keyword.Keyword.{Keyword}
 use Rattle.state_space.specs.declared.keyword.Keyword.TheVariants as keywords
 use Rattle.state_space.specs.Ranges.{RangeForm}
-use Rattle.model_text.specs.declared.token.Mark.{Mark}
-use Rattle.model_text.specs.declared.token.Mark.TheVariants.{Semicolon, Colon, Comma, Equal, Dots, OpenParenthesis, CloseParenthesis, OpenBrace, CloseBrace}
+use Rattle.model_text.specs.declared.token.Sign.{Sign}
+use Rattle.model_text.specs.declared.token.Sign.TheVariants.{Semicolon, Colon, Comma, Equal, Dots, OpenParenthesis, CloseParenthesis, OpenBrace, CloseBrace}
 use Rattle.model_text.specs.declared.statement.Role.{Role}
 use Rattle.temporal_logic.specs.Ltl.{Relation, is_same, is_other, is_below, is_at_most, is_above, is_at_least}
-use Rattle.model_text.specs.Tokens.{TokenForm, keyword, mark, name, number, stray, bad_byte}
-use Rattle.model_text.specs.RawTrees.{WrittenValue, a_word, a_number, a_truth, RawTree, neg, next, eventually, always, eventually_within, always_within, conj, disj, implies, iff, entails, until, unless, release, until_within, unless_within, release_within}
+use Rattle.model_text.specs.declared.token.Further.{Further}
+use Rattle.model_text.specs.declared.token.Further.TheVariants as furthers
+use Rattle.model_text.specs.Tokens.{TokenForm, keyword, mark, name, number, further, stray, bad_byte}
+use Rattle.model_text.specs.RawTrees.{WrittenValue, a_word, a_number, a_truth, an_attribute as attribute_value, RawTree, for_all, for_some, neg, next, eventually, always, eventually_within, always_within, conj, disj, implies, iff, entails, until, unless, release, until_within, unless_within, release_within}
 use Rattle.model_text.specs.Leaves.{cut_name, number_value, bound_value, value_of, relation_of}
 use Rattle.model_text.specs.Statements.{Setting, StatementForm}
-use Rattle.model_text.specs.FormulaGrammar.{Level, whole_level, iff_level, implies_level, or_level, and_level, tempo_level, prefix_level, SpellsValues, one_value, more_values, SpellsFormula, a_truth, a_falsity, in_parentheses, a_flag, a_comparison, a_choice, a_primary, a_negation, a_next, an_eventually, an_always, an_eventually_within, an_always_within, a_prefix, an_until, an_unless, a_release, an_until_within, an_unless_within, a_release_within, a_tempo, a_conjunction, a_conjunct, a_disjunction, a_disjunct, an_implication, a_side, an_equivalence, a_whole, an_entailment}
-use Rattle.model_text.specs.Writing.{value_token, sign_of, tightness, enclosed, values_tokens, within_tokens, formula_tokens, separated, names_tokens, whole_tokens, range_tokens, part_tokens, pattern_tokens, exact_tokens, role_token, set_tokens, state_tokens, statement_tokens}
+use Rattle.model_text.specs.FormulaGrammar.{Level, whole_level, iff_level, implies_level, or_level, and_level, tempo_level, prefix_level, argument, SpellsValues, one_value, more_values, SpellsRight, a_value, an_attribute_value, SpellsFormula, a_truth, a_falsity, in_parentheses, a_flag, a_comparison, a_choice, a_flag_of, a_comparison_of, a_choice_of, a_universal, an_existential, a_primary, a_negation, a_next, an_eventually, an_always, an_eventually_within, an_always_within, a_prefix, an_until, an_unless, a_release, an_until_within, an_unless_within, a_release_within, a_tempo, a_conjunction, a_conjunct, a_disjunction, a_disjunct, an_implication, a_side, an_equivalence, a_whole, an_entailment}
+use Rattle.model_text.specs.Writing.{value_token, right_tokens, sign_of, tightness, enclosed, values_tokens, within_tokens, formula_tokens, separated, names_tokens, whole_tokens, range_tokens, part_tokens, pattern_tokens, exact_tokens, role_token, set_tokens, state_tokens, statement_tokens}
 use Rattle.model_text.specs.Limits.{is_operator, is_semicolon, most_operators}
-use Rattle.model_text.specs.Grammar.{SpellsNames, one_name, more_names, SpellsPart, no_part, a_part, SpellsPattern, no_pattern, a_pattern, SpellsExact, not_exact, is_exact, SpellsRole, a_pre, a_trig, a_post, SpellsRange, a_boolean, an_enumeration, a_span, SpellsSets, one_set, more_sets, SpellsState, an_empty_state, a_state, SpellsStates, no_state, one_more_state, SpellsStatement, a_variable, a_domain, a_rule, a_goal, an_obstacle, a_refinement, an_obstruction, a_conflict, an_agent, an_assignment, an_expectation, an_operation, a_requirement, an_operationalisation, a_trace, SpellsStatements, no_statement, one_more, SpellsText, a_text}
+use Rattle.model_text.specs.Grammar.{SpellsNames, one_name, more_names, SpellsPart, no_part, a_part, SpellsPattern, no_pattern, a_pattern, SpellsExact, not_exact, is_exact, SpellsRole, a_pre, a_trig, a_post, SpellsRange, a_boolean, an_enumeration, a_span, SpellsSets, one_set, more_sets, SpellsState, an_empty_state, a_state, SpellsStates, no_state, one_more_state, SpellsStatement, a_variable, an_entity_type, an_attribute, a_domain, a_rule, a_goal, an_obstacle, a_refinement, an_obstruction, a_conflict, an_agent, an_assignment, an_expectation, an_operation, a_requirement, an_operationalisation, a_trace, SpellsStatements, no_statement, one_more, SpellsText, a_text, a_second_text}
 use Rattle.model_text.specs.Lines.{own_level, ended_tokens}
-use Rattle.model_text.proofs.WrittenFormulas.{more_is}
+use Rattle.model_text.proofs.WrittenFormulas.{more_is, no_attribute}
 use Rattle.model_text.proofs.WrittenStatements.{more_names_is, part_is, more_sets_is}
 use Rattle.model_text.proofs.WrittenLevels.{at_place, tight_enough}
 
@@ -94,12 +96,14 @@ value_weight (a_number (pos n)) = refl
 value_weight (a_number (negsuc n)) = refl
 value_weight (a_truth true) = refl
 value_weight (a_truth false) = refl
+value_weight (attribute_value f x) = refl
 
 value_no_semicolon : (t : TokenForm) (v : WrittenValue) → value_of t ≡ Some v → is_semicolon t ≡ false
 value_no_semicolon (keyword k) v e = refl
 value_no_semicolon (name x) v e = refl
 value_no_semicolon (number s d) v e = refl
 value_no_semicolon (mark m) v e = absurd cc
+value_no_semicolon (further f) v e = absurd cc
 value_no_semicolon stray v e = absurd cc
 value_no_semicolon bad_byte v e = absurd cc
 
@@ -115,13 +119,34 @@ values_count : {ts : List TokenForm} {vs : List WrittenValue} → SpellsValues t
 values_count (one_value t v e) = omega (arith, value_weight v)
 values_count (more_values t v ts vs e s) = ap count (more_is v s) ∙ omega (arith, value_weight v, values_count s)
 
-sign_no_semicolon : (m : Mark) (r : Relation) → relation_of m ≡ Some r → is_semicolon (mark m) ≡ false
+sign_no_semicolon : (m : Sign) (r : Relation) → relation_of m ≡ Some r → is_semicolon (mark m) ≡ false
 sign_no_semicolon Semicolon r e = absurd cc
 sign_no_semicolon m r e = refl
 
 values_counts : {ts : List TokenForm} {vs : List WrittenValue} → SpellsValues ts vs → Counts ts 0
 values_counts (one_value t v e) = counts_fewer (t ∷ []) _ 0 (omega arith) (counts_token t [] 0 (value_no_semicolon t v e) counts_none)
 values_counts (more_values t v ts vs e s) = counts_fewer (t ∷ mark Comma ∷ ts) _ 0 (omega arith) (counts_token t (mark Comma ∷ ts) _ (value_no_semicolon t v e) (counts_token (mark Comma) ts 0 refl (values_counts s)))
+
+-- "(" name ")" before others
+argument_counts : (x : List ℕ) (us : List TokenForm) (n : ℕ) → Counts us n → Counts (argument x us) (1 + n)
+argument_counts x us n a =
+    counts_fewer (argument x us) (1 + (0 + (0 + n))) (1 + n) (omega arith)
+    (counts_token (further furthers.OpenArgument) (name x ∷ mark CloseParenthesis ∷ us) (0 + (0 + n)) refl (counts_token (name x) (mark CloseParenthesis ∷ us) (0 + n) refl (counts_token (mark CloseParenthesis) us n refl a)))
+
+-- a quantifier, its bound name and its type, before others
+head_counts : (q : Further) (x k : List ℕ) (us : List TokenForm) (n : ℕ) → Counts us n → Counts (further q ∷ name x ∷ mark Colon ∷ name k ∷ further furthers.OpenArgument ∷ us) (weight (further q) + (0 + (0 + (0 + (1 + n)))))
+head_counts q x k us n a =
+    counts_token (further q) (name x ∷ mark Colon ∷ name k ∷ further furthers.OpenArgument ∷ us) (0 + (0 + (0 + (1 + n)))) refl
+    (counts_token (name x) (mark Colon ∷ name k ∷ further furthers.OpenArgument ∷ us) (0 + (0 + (1 + n))) refl
+    (counts_token (mark Colon) (name k ∷ further furthers.OpenArgument ∷ us) (0 + (1 + n)) refl
+    (counts_token (name k) (further furthers.OpenArgument ∷ us) (1 + n) refl (counts_token (further furthers.OpenArgument) us n refl a))))
+
+right_counts : {ts : List TokenForm} {v : WrittenValue} → SpellsRight ts v → Counts ts (count (right_tokens v))
+right_counts (a_value t (a_word f) e) = counts_fewer (t ∷ []) _ 0 (omega arith) (counts_token t [] 0 (value_no_semicolon t (a_word f) e) counts_none)
+right_counts (a_value t (a_number n) e) = counts_fewer (t ∷ []) _ _ (omega (arith, value_weight (a_number n))) (counts_token t [] 0 (value_no_semicolon t (a_number n) e) counts_none)
+right_counts (a_value t (a_truth b) e) = counts_fewer (t ∷ []) _ _ (omega (arith, value_weight (a_truth b))) (counts_token t [] 0 (value_no_semicolon t (a_truth b) e) counts_none)
+right_counts (a_value t (attribute_value f x) e) = absurd (no_attribute t f x e)
+right_counts (an_attribute_value f x) = counts_token (name f) (argument x []) 1 refl (argument_counts x [] 0 counts_none)
 
 joined_counts : (k : TokenForm) (a b ts us : List TokenForm) → is_semicolon k ≡ false → Counts ts (count a) → Counts us (count b) → Counts (ts ++ k ∷ us) (count (a ++ k ∷ b))
 joined_counts k a b ts us e x y = counts_fewer (ts ++ k ∷ us) (count a + (weight k + count b)) (count (a ++ k ∷ b)) (omega (arith, count_joined a (k ∷ b))) (counts_both ts (k ∷ us) (count a) (weight k + count b) x (counts_token k us (count b) e y))
@@ -144,8 +169,21 @@ formula_counts asked h (in_parentheses {ts} {f} s) =
     (omega (arith, ap count (at_place asked f), enclosed_count asked (own_level f) (formula_tokens (own_level f) f), ap count (tight_enough whole_level f (omega arith))))
     (counts_token (mark OpenParenthesis) (ts ++ mark CloseParenthesis ∷ []) _ refl (counts_both ts (mark CloseParenthesis ∷ []) _ 0 inner (counts_token (mark CloseParenthesis) [] 0 refl counts_none)))
 formula_counts asked h (a_flag x) = counts_token (name x) [] 0 refl counts_none
-formula_counts asked h (a_comparison x m q t v e d) =
-    counts_fewer (name x ∷ mark m ∷ t ∷ []) _ _ (omega (arith, sign_weight q, value_weight v)) (counts_token (name x) (mark m ∷ t ∷ []) _ refl (counts_token (mark m) (t ∷ []) _ (sign_no_semicolon m q e) (counts_token t [] 0 (value_no_semicolon t v d) counts_none)))
+formula_counts asked h (a_comparison x m q {ts} {v} e s) =
+    counts_fewer (name x ∷ mark m ∷ ts) _ _ (omega (arith, sign_weight q)) (counts_token (name x) (mark m ∷ ts) _ refl (counts_token (mark m) ts (count (right_tokens v)) (sign_no_semicolon m q e) (right_counts s)))
+formula_counts asked h (a_flag_of f x) = counts_token (name f) (argument x []) 1 refl (argument_counts x [] 0 counts_none)
+formula_counts asked h (a_comparison_of f x m q {ts} {v} e s) =
+    counts_fewer (name f ∷ argument x (mark m ∷ ts)) _ _ (omega (arith, sign_weight q))
+    (counts_token (name f) (argument x (mark m ∷ ts)) _ refl (argument_counts x (mark m ∷ ts) _ (counts_token (mark m) ts (count (right_tokens v)) (sign_no_semicolon m q e) (right_counts s))))
+formula_counts asked h (a_choice_of f x {ts} {vs} s) =
+    counts_fewer (name f ∷ argument x (keyword keywords.In ∷ mark OpenBrace ∷ ts ++ mark CloseBrace ∷ [])) (0 + (1 + 0)) _ (omega (arith, count_joined (values_tokens vs) (mark CloseBrace ∷ []), values_count s))
+    (counts_token (name f) (argument x (keyword keywords.In ∷ mark OpenBrace ∷ ts ++ mark CloseBrace ∷ [])) (1 + 0) refl (argument_counts x (keyword keywords.In ∷ mark OpenBrace ∷ ts ++ mark CloseBrace ∷ []) 0 (counts_token (keyword keywords.In) (mark OpenBrace ∷ ts ++ mark CloseBrace ∷ []) 0 refl (counts_token (mark OpenBrace) (ts ++ mark CloseBrace ∷ []) 0 refl (counts_both ts (mark CloseBrace ∷ []) 0 0 (values_counts s) (counts_token (mark CloseBrace) [] 0 refl counts_none))))))
+formula_counts asked h (a_universal x k {ts} {f} s) =
+    subst (λ (us : List TokenForm). Counts (further furthers.All ∷ name x ∷ mark Colon ∷ name k ∷ further furthers.OpenArgument ∷ ts ++ mark CloseParenthesis ∷ []) (count us)) (sym (tight_enough asked (for_all (cut_name x) (cut_name k) f) h))
+    (head_counts furthers.All x k (ts ++ mark CloseParenthesis ∷ []) (count (formula_tokens whole_level f ++ mark CloseParenthesis ∷ [])) (joined_counts (mark CloseParenthesis) (formula_tokens whole_level f) [] ts [] refl (formula_counts whole_level (omega arith) s) counts_none))
+formula_counts asked h (an_existential x k {ts} {f} s) =
+    subst (λ (us : List TokenForm). Counts (further furthers.Some ∷ name x ∷ mark Colon ∷ name k ∷ further furthers.OpenArgument ∷ ts ++ mark CloseParenthesis ∷ []) (count us)) (sym (tight_enough asked (for_some (cut_name x) (cut_name k) f) h))
+    (head_counts furthers.Some x k (ts ++ mark CloseParenthesis ∷ []) (count (formula_tokens whole_level f ++ mark CloseParenthesis ∷ [])) (joined_counts (mark CloseParenthesis) (formula_tokens whole_level f) [] ts [] refl (formula_counts whole_level (omega arith) s) counts_none))
 formula_counts asked h (a_choice x {ts} {vs} s) =
     counts_fewer (name x ∷ keyword keywords.In ∷ mark OpenBrace ∷ ts ++ mark CloseBrace ∷ []) 0 _ (omega (arith, count_joined (values_tokens vs) (mark CloseBrace ∷ []), values_count s))
     (counts_token (name x) (keyword keywords.In ∷ mark OpenBrace ∷ ts ++ mark CloseBrace ∷ []) 0 refl (counts_token (keyword keywords.In) (mark OpenBrace ∷ ts ++ mark CloseBrace ∷ []) 0 refl (counts_token (mark OpenBrace) (ts ++ mark CloseBrace ∷ []) 0 refl (counts_both ts (mark CloseBrace ∷ []) 0 0 (values_counts s) (counts_token (mark CloseBrace) [] 0 refl counts_none)))))
@@ -269,6 +307,12 @@ after_three t u v a ts e f g c = counts_token t (u ∷ v ∷ ts) (weight u + (we
 statement_counts : {ts : List TokenForm} {s : StatementForm} → SpellsStatement ts s → Counts ts (count (statement_tokens s))
 unfolding statement_tokens
 statement_counts (a_variable x {ts} {r} s) = after_three (keyword keywords.Var) (name x) (mark Colon) (range_tokens r) (ts) refl refl refl (range_counts s)
+statement_counts (an_entity_type x {ts} {xs} s) =
+    after_three (further furthers.Entity) (name x) (mark Colon) (mark OpenBrace ∷ names_tokens xs ++ mark CloseBrace ∷ []) (mark OpenBrace ∷ ts ++ mark CloseBrace ∷ []) refl refl refl
+    (counts_token (mark OpenBrace) (ts ++ mark CloseBrace ∷ []) (count (names_tokens xs ++ mark CloseBrace ∷ [])) refl (joined_counts (mark CloseBrace) (names_tokens xs) [] ts [] refl (names_counts s) counts_none))
+statement_counts (an_attribute x y {ts} {r} s) =
+    after_three (further furthers.Attr) (name x) (keyword keywords.Of) (name (cut_name y) ∷ mark Colon ∷ range_tokens r) (name y ∷ mark Colon ∷ ts) refl refl refl
+    (counts_token (name y) (mark Colon ∷ ts) (0 + count (range_tokens r)) refl (counts_token (mark Colon) ts (count (range_tokens r)) refl (range_counts s)))
 statement_counts (a_domain x {ts} {f} s) = after_three (keyword keywords.Domain) (name x) (mark Colon) (whole_tokens f) (ts) refl refl refl (whole_counts s)
 statement_counts (a_goal x {ts} {f} s) = after_three (keyword keywords.Goal) (name x) (mark Colon) (whole_tokens f) (ts) refl refl refl (whole_counts s)
 statement_counts (an_obstacle x {ts} {f} s) = after_three (keyword keywords.Obstacle) (name x) (mark Colon) (whole_tokens f) (ts) refl refl refl (whole_counts s)
@@ -298,3 +342,4 @@ statements_count (one_more {ts} {us} {s} {ss} a b) =
 pub text_count : {ts : List TokenForm} {ss : List StatementForm} → SpellsText ts ss → most_operators 0 (flat_map ended_tokens ss) ≤ most_operators 0 ts
 unfolding most_operators statement_tokens
 text_count (a_text b d is s) = let others = statements_count s in omega arith
+text_count (a_second_text b d is s) = let others = statements_count s in omega arith

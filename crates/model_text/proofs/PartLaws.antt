@@ -2,15 +2,15 @@
 use Rattle.std.proofs.Common.{◌≡◌, ℕ, zero, suc, List, [], ◌∷◌, ◌++◌, length, Option, Some, None, Ok, refl, sym, ap, subst, ◌∙◌, append_assoc, inl, inr}
 use Rattle.std.proofs.lemmas.List.{append-nil}
 use Rattle.state_space.specs.declared.keyword.Keyword.{Keyword}
-use Rattle.model_text.specs.declared.token.Mark.{Mark}
-use Rattle.model_text.specs.declared.token.Mark.TheVariants.{Comma}
+use Rattle.model_text.specs.declared.token.Sign.{Sign}
+use Rattle.model_text.specs.declared.token.Sign.TheVariants.{Comma}
 use Rattle.model_text.specs.Tokens.{TokenForm, keyword, mark, name}
 use Rattle.model_text.specs.Leaves.{cut_name}
 use Rattle.model_text.specs.Reading.{Reading, and_then, behind_keyword, behind_mark, keyword_at, mark_at, name_at}
 use Rattle.model_text.specs.FormulaReading.{if_behind}
 use Rattle.model_text.specs.Readers.{Reader, after, counted, if_word, if_sign, giving, nowhere, more_at, listed_at}
-use Rattle.model_text.proofs.FormulaTokens.{keyword_is, mark_is, ok_parts, and_then_ok, read_as_ok, if_behind_cases}
-use Rattle.model_text.proofs.TokenLaws.{keyword_at-ok, mark_at-ok, name_at-ok}
+use Rattle.model_text.proofs.FormulaTokens.{keyword_is, mark_is, ok_parts, and_then_ok, read_as_ok, if_behind_cases, mark_at_is}
+use Rattle.model_text.proofs.TokenLaws.{keyword_at-ok, name_at-ok}
 
 -- a front of the tokens spells what was read
 pub record Found {A : Type 0} (S : List TokenForm → A → Type 0) (ts : List TokenForm) (x : A) (rest : List TokenForm) : Type 0 where
@@ -27,8 +27,8 @@ pub record Finds {A : Type 0} (S : List TokenForm → A → Type 0) (read : Read
 pub data IsKeyword (k : Keyword) : List TokenForm → Unit {0} → Type 0 where
   is_keyword : (u : Unit {0}) → IsKeyword k (keyword k ∷ []) u
 
-pub data IsMark (m : Mark) : List TokenForm → Unit {0} → Type 0 where
-  is_mark : (u : Unit {0}) → IsMark m (mark m ∷ []) u
+pub data IsSign (m : Sign) : List TokenForm → Unit {0} → Type 0 where
+  is_mark : (u : Unit {0}) → IsSign m (mark m ∷ []) u
 
 pub data IsName : List TokenForm → List ℕ → Type 0 where
   is_name : (bytes : List ℕ) → IsName (name bytes ∷ []) (cut_name bytes)
@@ -49,7 +49,7 @@ pub data Behind {A : Type 0} (t : TokenForm) (S T : List TokenForm → A → Typ
   here : {us : List TokenForm} {x : A} → S us x → Behind t S T (t ∷ us) x
   other : {us : List TokenForm} {x : A} → T us x → Behind t S T us x
 
-pub data More {A : Type 0} (sign : Mark) (S : List TokenForm → A → Type 0) : List TokenForm → List A → Type 0 where
+pub data More {A : Type 0} (sign : Sign) (S : List TokenForm → A → Type 0) : List TokenForm → List A → Type 0 where
   no_more : More sign S [] []
   one_more : {us vs : List TokenForm} {x : A} {xs : List A} → S us x → More sign S vs xs → More sign S (mark sign ∷ us ++ vs) (x ∷ xs)
 
@@ -61,8 +61,8 @@ finds_as way part = record { found = λ ts x rest e. let f = part.found ts x res
 pub finds_keyword : (k : Keyword) → Finds (IsKeyword k) (keyword_at k)
 finds_keyword k = record { found = λ ts u rest e. record { tokens = keyword k ∷ []; spelled = is_keyword u; is = keyword_at-ok k ts u rest e } }
 
-pub finds_mark : (m : Mark) → Finds (IsMark m) (mark_at m)
-finds_mark m = record { found = λ ts u rest e. record { tokens = mark m ∷ []; spelled = is_mark u; is = mark_at-ok m ts u rest e } }
+pub finds_mark : (m : Sign) → Finds (IsSign m) (mark_at m)
+finds_mark m = record { found = λ ts u rest e. record { tokens = mark m ∷ []; spelled = is_mark u; is = mark_at_is m ts u rest e } }
 
 pub finds_name : Finds IsName name_at
 finds_name = record { found = λ ts x rest e. let f = name_at-ok ts x rest e in record { tokens = name f.bytes ∷ []; spelled = subst (IsName (name f.bytes ∷ [])) (sym f.cut) (is_name f.bytes); is = f.is } }
@@ -109,7 +109,7 @@ finds_word {S = S} {T = T} {first = first} {second = second} word f g = record {
   found = λ ts x rest e. behind_found S T (keyword word) (behind_keyword word ts) first second ts x rest (λ us is. keyword_is word ts us is) f g e;
 }
 
-pub finds_sign : {A : Type 0} {S T : List TokenForm → A → Type 0} {first second : Reader A} (sign : Mark) → Finds S first → Finds T second → Finds (Behind (mark sign) S T) (if_sign sign first second)
+pub finds_sign : {A : Type 0} {S T : List TokenForm → A → Type 0} {first second : Reader A} (sign : Sign) → Finds S first → Finds T second → Finds (Behind (mark sign) S T) (if_sign sign first second)
 unfolding if_sign
 finds_sign {S = S} {T = T} {first = first} {second = second} sign f g = record {
   found = λ ts x rest e. behind_found S T (mark sign) (behind_mark sign ts) first second ts x rest (λ us is. mark_is sign ts us is) f g e;
@@ -118,20 +118,20 @@ finds_sign {S = S} {T = T} {first = first} {second = second} sign f g = record {
 -- ---- parts behind others
 
 -- more parts were read behind those of the front
-pub record FindsMore {A : Type 0} (sign : Mark) (S : List TokenForm → A → Type 0) (front : List A) (ts : List TokenForm) (ys : List A) (rest : List TokenForm) : Type 0 where
+pub record FindsMore {A : Type 0} (sign : Sign) (S : List TokenForm → A → Type 0) (front : List A) (ts : List TokenForm) (ys : List A) (rest : List TokenForm) : Type 0 where
   pub tokens : List TokenForm
   pub more : List A
   pub spelled : More sign S tokens more
   pub all : ys ≡ front ++ more
   pub is : ts ≡ tokens ++ rest
 
-none_found : {A : Type 0} (sign : Mark) (S : List TokenForm → A → Type 0) (front : List A) (ts : List TokenForm) (ys : List A) (rest : List TokenForm)
+none_found : {A : Type 0} (sign : Sign) (S : List TokenForm → A → Type 0) (front : List A) (ts : List TokenForm) (ys : List A) (rest : List TokenForm)
     → ◌≡◌ {A = Reading (List A)} (Ok (front, ts)) (Ok (ys, rest)) → FindsMore sign S front ts ys rest
 none_found sign S front ts ys rest e =
     let p = ok_parts front ys ts rest e in
     record { tokens = []; more = []; spelled = no_more; all = sym p.0 ∙ sym (append-nil front); is = p.1 }
 
-pub more_found : {A : Type 0} (sign : Mark) (S : List TokenForm → A → Type 0) (one : Reader A) → Finds S one → (n : ℕ) (front : List A) (ts : List TokenForm) (ys : List A) (rest : List TokenForm)
+pub more_found : {A : Type 0} (sign : Sign) (S : List TokenForm → A → Type 0) (one : Reader A) → Finds S one → (n : ℕ) (front : List A) (ts : List TokenForm) (ys : List A) (rest : List TokenForm)
     → more_at sign one n front ts ≡ Ok (ys, rest) → FindsMore sign S front ts ys rest
 unfolding more_at
 more_found sign S one finds zero front ts ys rest e = none_found sign S front ts ys rest e

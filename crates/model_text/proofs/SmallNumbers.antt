@@ -6,19 +6,19 @@ use Rattle.std.proofs.lemmas.Bool.Decides.{nat_tests}
 use Rattle.state_space.specs.declared.keyword.Keyword.{Keyword}
 use Rattle.state_space.specs.declared.keyword.Keyword.TheVariants as keywords
 use Rattle.state_space.specs.Ranges.{RangeForm}
-use Rattle.model_text.specs.declared.token.Mark.TheVariants.{Semicolon, OpenParenthesis, CloseParenthesis, CloseBrace}
+use Rattle.model_text.specs.declared.token.Sign.TheVariants.{Semicolon, OpenParenthesis, CloseParenthesis, CloseBrace}
 use Rattle.model_text.specs.declared.statement.Role.{Role}
 use Rattle.model_text.specs.Tokens.{TokenForm, keyword, mark, name, number}
-use Rattle.model_text.specs.RawTrees.{WrittenValue, a_word, a_number, a_truth, RawTree}
+use Rattle.model_text.specs.RawTrees.{WrittenValue, a_word, a_number, a_truth, an_attribute as attribute_value, RawTree}
 use Rattle.model_text.specs.Leaves.{cut_name, magnitude, number_value, bound_value, value_of}
 use Rattle.model_text.specs.Statements.{Setting, StatementForm}
-use Rattle.model_text.specs.FormulaGrammar.{Level, whole_level, iff_level, implies_level, or_level, and_level, tempo_level, prefix_level, SpellsValues, one_value, more_values, SpellsFormula, a_truth, a_falsity, in_parentheses, a_flag, a_comparison, a_choice, a_primary, a_negation, a_next, an_eventually, an_always, an_eventually_within, an_always_within, a_prefix, an_until, an_unless, a_release, an_until_within, an_unless_within, a_release_within, a_tempo, a_conjunction, a_conjunct, a_disjunction, a_disjunct, an_implication, a_side, an_equivalence, a_whole, an_entailment}
+use Rattle.model_text.specs.FormulaGrammar.{Level, whole_level, iff_level, implies_level, or_level, and_level, tempo_level, prefix_level, SpellsValues, one_value, more_values, SpellsRight, a_value, an_attribute_value, SpellsFormula, a_truth, a_falsity, in_parentheses, a_flag, a_comparison, a_choice, a_flag_of, a_comparison_of, a_choice_of, a_universal, an_existential, a_primary, a_negation, a_next, an_eventually, an_always, an_eventually_within, an_always_within, a_prefix, an_until, an_unless, a_release, an_until_within, an_unless_within, a_release_within, a_tempo, a_conjunction, a_conjunct, a_disjunction, a_disjunct, an_implication, a_side, an_equivalence, a_whole, an_entailment}
 use Rattle.model_text.specs.Limits.{is_small}
-use Rattle.model_text.specs.Grammar.{SpellsNames, one_name, more_names, SpellsPart, no_part, a_part, SpellsPattern, no_pattern, a_pattern, SpellsExact, not_exact, is_exact, SpellsRole, a_pre, a_trig, a_post, SpellsRange, a_boolean, an_enumeration, a_span, SpellsSets, one_set, more_sets, SpellsState, an_empty_state, a_state, SpellsStates, no_state, one_more_state, SpellsStatement, a_variable, a_domain, a_rule, a_goal, an_obstacle, a_refinement, an_obstruction, a_conflict, an_agent, an_assignment, an_expectation, an_operation, a_requirement, an_operationalisation, a_trace, SpellsStatements, no_statement, one_more, SpellsText, a_text}
-use Rattle.model_text.specs.Writing.{number_token, value_token, tightness, enclosed, separated, names_tokens, values_tokens, within_tokens, whole_tokens, formula_tokens, range_tokens, part_tokens, pattern_tokens, exact_tokens, role_token, set_tokens, state_tokens, statement_tokens}
+use Rattle.model_text.specs.Grammar.{SpellsNames, one_name, more_names, SpellsPart, no_part, a_part, SpellsPattern, no_pattern, a_pattern, SpellsExact, not_exact, is_exact, SpellsRole, a_pre, a_trig, a_post, SpellsRange, a_boolean, an_enumeration, a_span, SpellsSets, one_set, more_sets, SpellsState, an_empty_state, a_state, SpellsStates, no_state, one_more_state, SpellsStatement, a_variable, an_entity_type, an_attribute, a_domain, a_rule, a_goal, an_obstacle, a_refinement, an_obstruction, a_conflict, an_agent, an_assignment, an_expectation, an_operation, a_requirement, an_operationalisation, a_trace, SpellsStatements, no_statement, one_more, SpellsText, a_text, a_second_text}
+use Rattle.model_text.specs.Writing.{number_token, value_token, right_tokens, tightness, enclosed, separated, names_tokens, values_tokens, within_tokens, whole_tokens, formula_tokens, range_tokens, part_tokens, pattern_tokens, exact_tokens, role_token, set_tokens, state_tokens, statement_tokens}
 use Rattle.model_text.specs.Lines.{ended_tokens}
 use Rattle.model_text.proofs.WrittenLeaves.{magnitude_again, bound_bounded}
-use Rattle.model_text.proofs.WrittenFormulas.{more_is}
+use Rattle.model_text.proofs.WrittenFormulas.{more_is, no_attribute}
 use Rattle.model_text.proofs.WrittenStatements.{more_names_is, part_is, more_sets_is}
 use Rattle.model_text.proofs.ReadTokens.{AllOf, all_front, all_back, all_joined}
 
@@ -53,8 +53,10 @@ small_value t (a_truth true) e r = refl
 small_value t (a_truth false) e r = refl
 small_value (keyword keywords.True) (a_word y) e r = absurd cc
 small_value (keyword keywords.True) (a_number n) e r = absurd cc
+small_value (keyword keywords.True) (attribute_value f y) e r = absurd cc
 small_value (keyword keywords.False) (a_word y) e r = absurd cc
 small_value (keyword keywords.False) (a_number n) e r = absurd cc
+small_value (keyword keywords.False) (attribute_value f y) e r = absurd cc
 small_value t v e r = absurd cc
 
 -- ---- formulas
@@ -62,6 +64,13 @@ small_value t v e r = absurd cc
 small_values : {ts : List TokenForm} {vs : List WrittenValue} → SpellsValues ts vs → AllOf IsSmall ts → AreSmall (values_tokens vs)
 small_values (one_value t v e) r = (small_value t v e r.0, tt)
 small_values (more_values t v ts vs e s) r = subst AreSmall (sym (more_is v s)) (small_value t v e r.0, (refl, small_values s r.1.1))
+
+small_right : {ts : List TokenForm} {v : WrittenValue} → SpellsRight ts v → AllOf IsSmall ts → AreSmall (right_tokens v)
+small_right (a_value t (a_word f) e) r = (small_value t (a_word f) e r.0, tt)
+small_right (a_value t (a_number n) e) r = (small_value t (a_number n) e r.0, tt)
+small_right (a_value t (a_truth b) e) r = (small_value t (a_truth b) e r.0, tt)
+small_right (a_value t (attribute_value f x) e) r = absurd (no_attribute t f x e)
+small_right (an_attribute_value f x) r = (refl, (refl, (refl, (refl, tt))))
 
 small_enclosed : (asked own : Level) (ts : List TokenForm) → AreSmall ts → AreSmall (enclosed asked own ts)
 small_enclosed asked own ts a = by_test (nat_le (tightness asked) (tightness own))
@@ -76,7 +85,15 @@ small_formula asked a_truth r = (refl, tt)
 small_formula asked a_falsity r = (refl, tt)
 small_formula asked (in_parentheses {ts} s) r = small_formula asked s (all_front IsSmall ts (mark CloseParenthesis ∷ []) r.1)
 small_formula asked (a_flag x) r = (refl, tt)
-small_formula asked (a_comparison x m q t v e d) r = (refl, (refl, (small_value t v d r.1.1.0, tt)))
+small_formula asked (a_comparison x m q e s) r = (refl, (refl, small_right s r.1.1))
+small_formula asked (a_flag_of f x) r = (refl, (refl, (refl, (refl, tt))))
+small_formula asked (a_comparison_of f x m q e s) r = (refl, (refl, (refl, (refl, (refl, small_right s r.1.1.1.1.1)))))
+small_formula asked (a_choice_of f x {ts} {vs} s) r =
+    (refl, (refl, (refl, (refl, (refl, (refl, all_joined IsSmall (values_tokens vs) (mark CloseBrace ∷ []) (small_values s (all_front IsSmall ts (mark CloseBrace ∷ []) r.1.1.1.1.1.1)) (refl, tt)))))))
+small_formula asked (a_universal x k {ts} {f} s) r =
+    small_enclosed asked prefix_level _ (refl, (refl, (refl, (refl, (refl, all_joined IsSmall (formula_tokens whole_level f) (mark CloseParenthesis ∷ []) (small_formula whole_level s (all_front IsSmall ts (mark CloseParenthesis ∷ []) r.1.1.1.1.1)) (refl, tt))))))
+small_formula asked (an_existential x k {ts} {f} s) r =
+    small_enclosed asked prefix_level _ (refl, (refl, (refl, (refl, (refl, all_joined IsSmall (formula_tokens whole_level f) (mark CloseParenthesis ∷ []) (small_formula whole_level s (all_front IsSmall ts (mark CloseParenthesis ∷ []) r.1.1.1.1.1)) (refl, tt))))))
 small_formula asked (a_choice x {ts} {vs} s) r = (refl, (refl, (refl, all_joined IsSmall (values_tokens vs) (mark CloseBrace ∷ []) (small_values s (all_front IsSmall ts (mark CloseBrace ∷ []) r.1.1.1)) (refl, tt))))
 small_formula asked (a_primary s) r = small_formula asked s r
 small_formula asked (a_prefix s) r = small_formula asked s r
@@ -147,6 +164,9 @@ small_states (one_more_state {ts} {us} {s} {ss} a b) r = all_joined IsSmall (sta
 small_statement : {ts : List TokenForm} {s : StatementForm} → SpellsStatement ts s → AllOf IsSmall ts → AreSmall (statement_tokens s)
 unfolding statement_tokens
 small_statement (a_variable x s) r = (refl, (refl, (refl, small_range s r.1.1.1)))
+small_statement (an_entity_type x {ts} {xs} s) r =
+    (refl, (refl, (refl, (refl, all_joined IsSmall (names_tokens xs) (mark CloseBrace ∷ []) (small_names s (all_front IsSmall ts (mark CloseBrace ∷ []) r.1.1.1.1)) (refl, tt)))))
+small_statement (an_attribute x y s) r = (refl, (refl, (refl, (refl, (refl, small_range s r.1.1.1.1.1)))))
 small_statement (a_domain x s) r = (refl, (refl, (refl, small_formula whole_level s r.1.1.1)))
 small_statement (a_rule x {ts} {us} {f} {g} s t) r =
     (refl, (refl, (refl, all_joined IsSmall (formula_tokens iff_level f) (keyword keywords.Entails ∷ formula_tokens iff_level g) (small_formula iff_level s (all_front IsSmall ts (keyword keywords.Entails ∷ us) r.1.1.1)) (refl, small_formula iff_level t (all_back IsSmall ts (keyword keywords.Entails ∷ us) r.1.1.1).1))))
@@ -182,6 +202,7 @@ small_statements (one_more {ts} {us} {s} {ss} a b) r =
 small_text : {ts : List TokenForm} {ss : List StatementForm} → SpellsText ts ss → AllOf IsSmall ts → AreSmall (flat_map ended_tokens ss)
 unfolding statement_tokens
 small_text (a_text b d is s) r = (refl, (small_decimal false 1 (omega arith), (refl, small_statements s r.1.1.1)))
+small_text (a_second_text b d is s) r = (refl, (small_decimal false 2 (omega arith), (refl, small_statements s r.1.1.1)))
 
 all_small : (ts : List TokenForm) → list_all is_small ts ≡ true → AreSmall ts
 all_small [] e = tt

@@ -2,16 +2,18 @@
 use Rattle.std.proofs.Common.{◌≡◌, List, [], ◌∷◌, ◌++◌, Ok, refl, ap, append_assoc}
 use Rattle.state_space.specs.declared.keyword.Keyword.{Keyword}
 use Rattle.state_space.specs.declared.keyword.Keyword.TheVariants as keywords
-use Rattle.model_text.specs.declared.token.Mark.TheVariants.{Semicolon}
-use Rattle.model_text.specs.Tokens.{TokenForm, keyword, mark}
+use Rattle.model_text.specs.declared.token.Sign.TheVariants.{Semicolon}
+use Rattle.model_text.specs.declared.token.Further.{Further}
+use Rattle.model_text.specs.declared.token.Further.TheVariants as furthers
+use Rattle.model_text.specs.Tokens.{TokenForm, keyword, mark, further}
 use Rattle.model_text.specs.Statements.{StatementForm}
-use Rattle.model_text.specs.Grammar.{SpellsStatement, a_variable, a_domain, a_rule, a_goal, an_obstacle, a_refinement, an_obstruction, a_conflict, an_agent, an_assignment, an_expectation, an_operation, a_requirement, an_operationalisation, a_trace}
+use Rattle.model_text.specs.Grammar.{SpellsStatement, a_variable, an_entity_type, an_attribute, a_domain, a_rule, a_goal, an_obstacle, a_refinement, an_obstruction, a_conflict, an_agent, an_assignment, an_expectation, an_operation, a_requirement, an_operationalisation, a_trace}
 use Rattle.model_text.specs.Reading.{name_at}
 use Rattle.model_text.specs.Readers.{Reader, after, counted}
-use Rattle.model_text.specs.StatementReading.{label_at, pair_at, body_behind, variable_at, named_body_at, rule_at, refinement_at, obstruction_at, conflict_at, agent_at, assignment_at, expectation_at, operation_at, requirement_at, operationalisation_at, trace_at, statement_at}
+use Rattle.model_text.specs.StatementReading.{declared_name_at, pair_at, body_behind, variable_at, entity_type_at, attribute_at, named_body_at, rule_at, refinement_at, obstruction_at, conflict_at, agent_at, assignment_at, expectation_at, operation_at, requirement_at, operationalisation_at, trace_at, statement_at}
 use Rattle.model_text.proofs.PartLaws.{Found, Finds}
 use Rattle.model_text.proofs.NameLaws.{group_read, part_read, body_read, side_read}
-use Rattle.model_text.proofs.PropertyLaws.{range_read, variable_at-ok, domain_at-ok, rule_at-ok, goal_at-ok, obstacle_at-ok}
+use Rattle.model_text.proofs.PropertyLaws.{range_read, members_read, variable_at-ok, entity_type_at-ok, attribute_at-ok, domain_at-ok, rule_at-ok, goal_at-ok, obstacle_at-ok}
 use Rattle.model_text.proofs.LinkLaws.{pattern_ends, pattern_read, exact_ends, exact_read, role_read, several_read, controls_end, refinement_at-ok, obstruction_at-ok, conflict_at-ok, agent_at-ok, assignment_at-ok, expectation_at-ok, operation_at-ok, requirement_at-ok, operationalisation_at-ok}
 use Rattle.model_text.proofs.TraceLaws.{states_read, cycle_read, trace_at-ok}
 
@@ -24,8 +26,17 @@ begun word form ts s rest e =
     let f = form.found ts s rest e in
     record { tokens = keyword word ∷ f.tokens; spelled = f.spelled; is = ap (λ (us : List TokenForm). keyword word ∷ us) f.is }
 
+-- the same behind a keyword of version 2
+begun_further : (word : Further) {read : Reader StatementForm} → Finds (λ us s. SpellsStatement (further word ∷ us) s) read → (ts : List TokenForm) (s : StatementForm) (rest : List TokenForm)
+    → read ts ≡ Ok (s, rest) → Found SpellsStatement (further word ∷ ts) s rest
+begun_further word form ts s rest e =
+    let f = form.found ts s rest e in
+    record { tokens = further word ∷ f.tokens; spelled = f.spelled; is = ap (λ (us : List TokenForm). further word ∷ us) f.is }
+
 begun_so : (ts : List TokenForm) (s : StatementForm) (rest : List TokenForm) → statement_at ts ≡ Ok (s, rest) → Found SpellsStatement ts s rest
 begun_so (keyword keywords.Var ∷ ts) s rest e = begun keywords.Var variable_at-ok ts s rest e
+begun_so (further furthers.Entity ∷ ts) s rest e = begun_further furthers.Entity entity_type_at-ok ts s rest e
+begun_so (further furthers.Attr ∷ ts) s rest e = begun_further furthers.Attr attribute_at-ok ts s rest e
 begun_so (keyword keywords.Domain ∷ ts) s rest e = begun keywords.Domain domain_at-ok ts s rest e
 begun_so (keyword keywords.Rule ∷ ts) s rest e = begun keywords.Rule rule_at-ok ts s rest e
 begun_so (keyword keywords.Goal ∷ ts) s rest e = begun keywords.Goal goal_at-ok ts s rest e
@@ -49,8 +60,10 @@ statement_at-ok = record { found = begun_so }
 -- ---- what is spelled is read
 
 pub statement_read : {ts : List TokenForm} {s : StatementForm} → SpellsStatement ts s → (rest : List TokenForm) → statement_at (ts ++ mark Semicolon ∷ rest) ≡ Ok (s, mark Semicolon ∷ rest)
-unfolding label_at pair_at body_behind variable_at named_body_at rule_at refinement_at obstruction_at conflict_at agent_at assignment_at expectation_at operation_at requirement_at operationalisation_at trace_at after counted name_at
+unfolding declared_name_at pair_at body_behind variable_at entity_type_at attribute_at named_body_at rule_at refinement_at obstruction_at conflict_at agent_at assignment_at expectation_at operation_at requirement_at operationalisation_at trace_at after counted name_at
 statement_read (a_variable x r) rest = rw (range_read r (mark Semicolon ∷ rest)) refl
+statement_read (an_entity_type x n) rest = rw (members_read n (mark Semicolon ∷ rest)) refl
+statement_read (an_attribute x y r) rest = rw (range_read r (mark Semicolon ∷ rest)) refl
 statement_read (a_domain x f) rest = rw (body_read f (mark Semicolon ∷ rest) refl) refl
 statement_read (a_rule x {ts = ts} {us = us} f g) rest =
     rw (append_assoc ts (keyword keywords.Entails ∷ us) (mark Semicolon ∷ rest), side_read f (keyword keywords.Entails ∷ us ++ mark Semicolon ∷ rest) refl, side_read g (mark Semicolon ∷ rest) refl) refl

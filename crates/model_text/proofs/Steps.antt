@@ -5,7 +5,7 @@ use Rattle.std.specs.Prelude.{if◌then◌else◌, ◌==◌}
 use Rattle.state_space.specs.Names.{is_word_byte}
 use Rattle.model_text.specs.declared.lexer.State.TheVariants as states
 use Rattle.model_text.specs.Lexing.{between, comment, within, behind, may_go_on, fresh, next}
-use Rattle.model_text.specs.Seen.{seen, fresh_code}
+use Rattle.model_text.specs.LexerView.{seen, fresh_code}
 
 pub word_more : (text : List ℕ) (from at : ℕ) → from ≤ at → at < length text → take (at + 1 - from) (drop from text) ≡ take (at - from) (drop from text) ++ get_or text at 0 ∷ []
 word_more text from at le lt =

@@ -5,7 +5,7 @@ use Rattle.std.specs.List.{list_all}
 use Rattle.std.specs.Char.{is_ascii_digit}
 use Rattle.std.proofs.lemmas.List.{length-map}
 use Rattle.state_space.specs.Names.{is_word_byte}
-use Rattle.model_text.specs.declared.token.Mark.{Mark}
+use Rattle.model_text.specs.declared.token.Sign.{Sign}
 use Rattle.model_text.specs.Tokens.{Placed, bad_byte}
 use Rattle.model_text.specs.Lexing.{Before, between, comment, within, behind, negative_word, ended, single_of, alone_form, alone, is_blank, may_go_on, pair_of, lone_form, behind_emitted, emitted, next, tokens_from, tokens_of}
 
@@ -25,7 +25,7 @@ few_ended (within from true word) = few_negative from word
 few_ended (within from false word) = omega arith
 few_ended (behind from byte) = omega arith
 
-alone_few : (o : Option Mark) (byte : ℕ) → length (alone_form o byte) ≤ 1
+alone_few : (o : Option Sign) (byte : ℕ) → length (alone_form o byte) ≤ 1
 alone_few (Some m) byte = omega arith
 alone_few None byte = go (is_blank byte || byte == 35 || is_word_byte byte || may_go_on byte)
   where
@@ -40,7 +40,7 @@ few_alone at byte = rw length-map (alone_few (single_of byte) byte)
 few_joined : (xs ys : List Placed) → length xs ≤ 2 → length ys ≤ 1 → length (xs ++ ys) ≤ 3
 few_joined xs ys x y = omega (arith, length-append xs ys)
 
-few_behind : (o : Option Mark) (from first at byte : ℕ) → length (behind_emitted o from first at byte) ≤ 3
+few_behind : (o : Option Sign) (from first at byte : ℕ) → length (behind_emitted o from first at byte) ≤ 3
 few_behind (Some m) from first at byte = omega arith
 few_behind None from first at byte = either_few (first == 45 && is_word_byte byte) [] _ 3 (omega arith) (few_joined (record { at = from; form = lone_form first } ∷ []) (alone at byte) (omega arith) (few_alone at byte))
 

@@ -1,8 +1,8 @@
 -- What stands before the tokens behind a wanted token, and what a step that did not fail has read.
 use Rattle.std.proofs.Common.{◌≡◌, ℕ, List, [], ◌∷◌, Option, Some, None, Ok, Err, refl, sym, ap}
 use Rattle.state_space.specs.declared.keyword.Keyword.{Keyword}
-use Rattle.model_text.specs.declared.token.Mark.{Mark}
-use Rattle.model_text.specs.Tokens.{TokenForm, keyword, mark, name, number, stray, bad_byte}
+use Rattle.model_text.specs.declared.token.Sign.{Sign}
+use Rattle.model_text.specs.Tokens.{TokenForm, keyword, mark, name, number, further, stray, bad_byte}
 use Rattle.model_text.specs.Leaves.{cut_name}
 use Rattle.model_text.specs.Reading.{Reading, and_then, behind_keyword, behind_mark, required, keyword_at, mark_at, name_at}
 use Rattle.model_text.proofs.FormulaTokens.{keyword_is, mark_is, ok_parts}
@@ -19,9 +19,6 @@ required-ok None ts u rest e = absurd cc
 pub keyword_at-ok : (k : Keyword) (ts : List TokenForm) (u : Unit {0}) (rest : List TokenForm) → keyword_at k ts ≡ Ok (u, rest) → ts ≡ keyword k ∷ rest
 keyword_at-ok k ts u rest e = keyword_is k ts rest (required-ok (behind_keyword k ts) ts u rest e)
 
-pub mark_at-ok : (m : Mark) (ts : List TokenForm) (u : Unit {0}) (rest : List TokenForm) → mark_at m ts ≡ Ok (u, rest) → ts ≡ mark m ∷ rest
-mark_at-ok m ts u rest e = mark_is m ts rest (required-ok (behind_mark m ts) ts u rest e)
-
 -- a name was found, and counts by its first 40 bytes
 pub record FindsName (ts : List TokenForm) (x : List ℕ) (rest : List TokenForm) : Type 0 where
   pub bytes : List ℕ
@@ -35,6 +32,7 @@ name_at-ok (name y ∷ ts) x rest e = let p = ok_parts (cut_name y) x ts rest e 
 name_at-ok (keyword k ∷ ts) x rest e = absurd cc
 name_at-ok (mark m ∷ ts) x rest e = absurd cc
 name_at-ok (number s d ∷ ts) x rest e = absurd cc
+name_at-ok (further f ∷ ts) x rest e = absurd cc
 name_at-ok (stray ∷ ts) x rest e = absurd cc
 name_at-ok (bad_byte ∷ ts) x rest e = absurd cc
 

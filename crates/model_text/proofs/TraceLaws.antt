@@ -2,7 +2,7 @@
 use Rattle.std.proofs.Common.{◌≡◌, ℕ, ◌-◌, ◌<◌, ◌≤◌, List, [], ◌∷◌, ◌++◌, length, Some, None, Ok, refl, sym, ap, subst, ◌∙◌, append_assoc, length-append, arith}
 use Rattle.std.proofs.lemmas.List.{append-nil}
 use Rattle.state_space.specs.declared.keyword.Keyword.TheVariants as keywords
-use Rattle.model_text.specs.declared.token.Mark.TheVariants.{Colon, Comma, Equal, OpenBrace, CloseBrace}
+use Rattle.model_text.specs.declared.token.Sign.TheVariants.{Colon, Comma, Equal, OpenBrace, CloseBrace}
 use Rattle.model_text.specs.Tokens.{TokenForm, keyword, mark, name}
 use Rattle.model_text.specs.RawTrees.{WrittenValue}
 use Rattle.model_text.specs.Leaves.{cut_name, value_of}
@@ -15,8 +15,8 @@ use Rattle.model_text.specs.StatementReading.{set_at, some_sets_at, state_at, st
 use Rattle.model_text.proofs.FormulaTokens.{ok_parts}
 use Rattle.model_text.proofs.FormulaFound.{value_found}
 use Rattle.model_text.proofs.FormulaRead.{value_read}
-use Rattle.model_text.proofs.PartLaws.{Found, Finds, IsKeyword, is_keyword, IsMark, is_mark, IsName, is_name, IsNothing, is_nothing, Both, both, Made, made, Behind, here, other, More, no_more, one_more, finds_as, finds_keyword, finds_mark, finds_name, finds_nothing, finds_after, finds_counted, finds_sign, finds_listed, more_found}
-use Rattle.model_text.proofs.NameLaws.{IsLabel, is_label, label_found}
+use Rattle.model_text.proofs.PartLaws.{Found, Finds, IsKeyword, is_keyword, IsSign, is_mark, IsName, is_name, IsNothing, is_nothing, Both, both, Made, made, Behind, here, other, More, no_more, one_more, finds_as, finds_keyword, finds_mark, finds_name, finds_nothing, finds_after, finds_counted, finds_sign, finds_listed, more_found}
+use Rattle.model_text.proofs.NameLaws.{IsLabel, is_declared_name, declared_name_found}
 use Rattle.model_text.proofs.Turns.{more_more, more_done}
 
 -- a value of a variable
@@ -34,7 +34,7 @@ finds_value = record { found = λ ts v rest e. let f = value_found ts v rest e i
 data IsSet : List TokenForm → Setting → Type 0 where
   is_set : (x : List ℕ) (t : TokenForm) (v : WrittenValue) → value_of t ≡ Some v → IsSet (name x ∷ mark Equal ∷ t ∷ []) (setting (cut_name x) v)
 
-set_spelled : {us : List TokenForm} {s : Setting} → Both IsName (λ x. Both (IsMark Equal) (λ _. Made (setting x) IsValue)) us s → IsSet us s
+set_spelled : {us : List TokenForm} {s : Setting} → Both IsName (λ x. Both (IsSign Equal) (λ _. Made (setting x) IsValue)) us s → IsSet us s
 set_spelled (both (is_name x) (both (is_mark u) (made (is_value t v is)))) = is_set x t v is
 
 set_found : Finds IsSet set_at
@@ -51,7 +51,7 @@ sets_spelled (both (is_set x t v is) (made more)) = sets_behind x t v is more
 data IsEnded : List TokenForm → List Setting → Type 0 where
   is_ended : {ts : List TokenForm} {sets : List Setting} → SpellsSets ts sets → IsEnded (ts ++ mark CloseBrace ∷ []) sets
 
-ended_spelled : {us : List TokenForm} {sets : List Setting} → Both SpellsSets (λ sets. Made (λ _. sets) (IsMark CloseBrace)) us sets → IsEnded us sets
+ended_spelled : {us : List TokenForm} {sets : List Setting} → Both SpellsSets (λ sets. Made (λ _. sets) (IsSign CloseBrace)) us sets → IsEnded us sets
 ended_spelled (both s (made (is_mark u))) = is_ended s
 
 some_sets_found : Finds IsEnded some_sets_at
@@ -105,12 +105,12 @@ unfolding cycle_at
 cycle_found = finds_as (λ us ss p. cycle_spelled p) (finds_after states_found (λ ss. record { found = if_some-ok ss }))
 
 trace_spelled : {us : List TokenForm} {s : StatementForm} → Both IsLabel (λ x. Both SpellsStates (λ prefix. Both (IsKeyword keywords.Loop) (λ _. Made (trace x prefix) IsCycle))) us s → SpellsStatement (keyword keywords.Trace ∷ us) s
-trace_spelled (both (is_label x) (both {us = ts} {x = prefix} p (both (is_keyword u) (made (is_cycle {us = us} {vs = vs} {s = s} {ss = ss} first more))))) =
+trace_spelled (both (is_declared_name x) (both {us = ts} {x = prefix} p (both (is_keyword u) (made (is_cycle {us = us} {vs = vs} {s = s} {ss = ss} first more))))) =
     subst (λ (ws : List TokenForm). SpellsStatement (keyword keywords.Trace ∷ name x ∷ mark Colon ∷ ws) (trace (cut_name x) prefix (s ∷ ss))) (append_assoc ts (keyword keywords.Loop ∷ us) vs) (a_trace x p first more)
 
 pub trace_at-ok : Finds (λ us s. SpellsStatement (keyword keywords.Trace ∷ us) s) trace_at
 unfolding trace_at
-trace_at-ok = finds_as (λ us s p. trace_spelled p) (finds_after label_found (λ x. finds_after states_found (λ prefix. finds_after (finds_keyword keywords.Loop) (λ _. finds_counted (trace x prefix) cycle_found))))
+trace_at-ok = finds_as (λ us s p. trace_spelled p) (finds_after declared_name_found (λ x. finds_after states_found (λ prefix. finds_after (finds_keyword keywords.Loop) (λ _. finds_counted (trace x prefix) cycle_found))))
 
 -- ---- what is spelled is read
 

@@ -1,13 +1,14 @@
 -- What a formula is written with spells the same formula, at each place.
-use Rattle.std.proofs.Common.{◌≡◌, ℕ, Bool, true, false, List, [], ◌∷◌, ◌++◌, refl, sym, subst, append_assoc}
+use Rattle.std.proofs.Common.{◌≡◌, ℕ, Bool, true, false, List, [], ◌∷◌, ◌++◌, refl, sym, subst, append_assoc, Some}
 use Rattle.std.specs.Prelude.{nat_le, decimal, if◌then◌else◌}
 use Rattle.state_space.specs.declared.keyword.Keyword.TheVariants as keywords
-use Rattle.model_text.specs.declared.token.Mark.TheVariants.{Comma, OpenParenthesis, CloseParenthesis, OpenBrace, CloseBrace}
+use Rattle.model_text.specs.declared.token.Sign.TheVariants.{Comma, OpenParenthesis, CloseParenthesis, OpenBrace, CloseBrace}
+use Rattle.model_text.specs.declared.token.Further.TheVariants as furthers
 use Rattle.model_text.specs.Tokens.{TokenForm, keyword, mark, name, number}
-use Rattle.model_text.specs.RawTrees.{WrittenValue, RawTree, bare, compares, among, eventually_within, always_within, until_within, unless_within, release_within}
-use Rattle.model_text.specs.Leaves.{cut_name, bound_value}
-use Rattle.model_text.specs.FormulaGrammar.{Level, whole_level, iff_level, implies_level, or_level, and_level, tempo_level, prefix_level, primary_level, SpellsValues, one_value, more_values, SpellsFormula, a_truth, a_falsity, in_parentheses, a_flag, a_comparison, a_choice, a_primary, a_negation, a_next, an_eventually, an_always, an_eventually_within, an_always_within, a_prefix, an_until, an_unless, a_release, an_until_within, an_unless_within, a_release_within, a_tempo, a_conjunction, a_conjunct, a_disjunction, a_disjunct, an_implication, a_side, an_equivalence, a_whole, an_entailment}
-use Rattle.model_text.specs.Writing.{tightness, enclosed, sign_of, value_token, values_tokens, within_tokens, formula_tokens}
+use Rattle.model_text.specs.RawTrees.{WrittenValue, a_word, a_number, a_truth, an_attribute, RawTree, bare, compares, among, bare_of, compares_of, among_of, for_all, for_some, eventually_within, always_within, until_within, unless_within, release_within}
+use Rattle.model_text.specs.Leaves.{cut_name, bound_value, value_of}
+use Rattle.model_text.specs.FormulaGrammar.{Level, whole_level, iff_level, implies_level, or_level, and_level, tempo_level, prefix_level, primary_level, argument, SpellsValues, one_value, more_values, SpellsRight, a_value, an_attribute_value, SpellsFormula, a_truth, a_falsity, in_parentheses, a_flag, a_comparison, a_choice, a_flag_of, a_comparison_of, a_choice_of, a_universal, an_existential, a_primary, a_negation, a_next, an_eventually, an_always, an_eventually_within, an_always_within, a_prefix, an_until, an_unless, a_release, an_until_within, an_unless_within, a_release_within, a_tempo, a_conjunction, a_conjunct, a_disjunction, a_disjunct, an_implication, a_side, an_equivalence, a_whole, an_entailment}
+use Rattle.model_text.specs.Writing.{tightness, enclosed, sign_of, value_token, right_tokens, values_tokens, quantified_tokens, within_tokens, formula_tokens}
 use Rattle.model_text.proofs.WrittenLeaves.{cut_again, bound_again, sign_again, value_again}
 
 -- what a rule spells is spelled at each place that asks for no tighter one
@@ -90,6 +91,27 @@ written_values (one_value t v e) = one_value (value_token v) v (value_again t v 
 written_values (more_values t v ts vs e s) =
     subst (λ (us : List TokenForm). SpellsValues us (v ∷ vs)) (sym (more_is v s)) (more_values (value_token v) v (values_tokens vs) vs (value_again t v e) (written_values s))
 
+-- no value is an attribute with a name
+pub no_attribute : (t : TokenForm) (f x : List ℕ) → value_of t ≡ Some (an_attribute f x) → ⊥
+no_attribute (name y) f x e = cc
+no_attribute (number s d) f x e = cc
+no_attribute (keyword keywords.True) f x e = cc
+no_attribute (keyword keywords.False) f x e = cc
+no_attribute t f x e = cc
+
+-- what is written behind a comparison spells the same
+right_value : (t : TokenForm) (v : WrittenValue) → value_of t ≡ Some v → SpellsRight (right_tokens v) v
+right_value t (a_word f) e = a_value (value_token (a_word f)) (a_word f) (value_again t (a_word f) e)
+right_value t (a_number n) e = a_value (value_token (a_number n)) (a_number n) (value_again t (a_number n) e)
+right_value t (a_truth b) e = a_value (value_token (a_truth b)) (a_truth b) (value_again t (a_truth b) e)
+right_value t (an_attribute f x) e = absurd (no_attribute t f x e)
+
+pub written_right : {ts : List TokenForm} {v : WrittenValue} → SpellsRight ts v → SpellsRight (right_tokens v) v
+written_right (a_value t v e) = right_value t v e
+written_right (an_attribute_value f x) =
+    subst (λ (y : List ℕ). SpellsRight (name (cut_name f) ∷ argument (cut_name x) []) (an_attribute (cut_name f) y)) (cut_again x)
+    (subst (λ (g : List ℕ). SpellsRight (name (cut_name f) ∷ argument (cut_name x) []) (an_attribute g (cut_name (cut_name x)))) (cut_again f) (an_attribute_value (cut_name f) (cut_name x)))
+
 -- what is written spells the same formula
 pub written_spells : (asked : Level) {l : Level} {ts : List TokenForm} {f : RawTree} → SpellsFormula l ts f → SpellsFormula asked (formula_tokens asked f) f
 unfolding formula_tokens
@@ -97,8 +119,23 @@ written_spells asked a_truth = primary_placed asked a_truth
 written_spells asked a_falsity = primary_placed asked a_falsity
 written_spells asked (in_parentheses s) = written_spells asked s
 written_spells asked (a_flag x) = primary_placed asked (subst (λ (y : List ℕ). SpellsFormula primary_level (name (cut_name x) ∷ []) (bare y)) (cut_again x) (a_flag (cut_name x)))
-written_spells asked (a_comparison x m r t v e d) =
-    primary_placed asked (subst (λ (y : List ℕ). SpellsFormula primary_level (name (cut_name x) ∷ mark (sign_of r) ∷ value_token v ∷ []) (compares y r v)) (cut_again x) (a_comparison (cut_name x) (sign_of r) r (value_token v) v (sign_again r) (value_again t v d)))
+written_spells asked (a_comparison x m r {ts} {v} e s) =
+    primary_placed asked (subst (λ (y : List ℕ). SpellsFormula primary_level (name (cut_name x) ∷ mark (sign_of r) ∷ right_tokens v) (compares y r v)) (cut_again x) (a_comparison (cut_name x) (sign_of r) r (sign_again r) (written_right s)))
+written_spells asked (a_flag_of f x) =
+    primary_placed asked (subst (λ (g : List ℕ). SpellsFormula primary_level (name (cut_name f) ∷ argument (cut_name x) []) (bare_of g (cut_name x))) (cut_again f)
+    (subst (λ (y : List ℕ). SpellsFormula primary_level (name (cut_name f) ∷ argument (cut_name x) []) (bare_of (cut_name (cut_name f)) y)) (cut_again x) (a_flag_of (cut_name f) (cut_name x))))
+written_spells asked (a_comparison_of f x m r {ts} {v} e s) =
+    primary_placed asked (subst (λ (g : List ℕ). SpellsFormula primary_level (name (cut_name f) ∷ argument (cut_name x) (mark (sign_of r) ∷ right_tokens v)) (compares_of g (cut_name x) r v)) (cut_again f)
+    (subst (λ (y : List ℕ). SpellsFormula primary_level (name (cut_name f) ∷ argument (cut_name x) (mark (sign_of r) ∷ right_tokens v)) (compares_of (cut_name (cut_name f)) y r v)) (cut_again x) (a_comparison_of (cut_name f) (cut_name x) (sign_of r) r (sign_again r) (written_right s))))
+written_spells asked (a_choice_of f x {ts} {vs} s) =
+    primary_placed asked (subst (λ (g : List ℕ). SpellsFormula primary_level (name (cut_name f) ∷ argument (cut_name x) (keyword keywords.In ∷ mark OpenBrace ∷ values_tokens vs ++ mark CloseBrace ∷ [])) (among_of g (cut_name x) vs)) (cut_again f)
+    (subst (λ (y : List ℕ). SpellsFormula primary_level (name (cut_name f) ∷ argument (cut_name x) (keyword keywords.In ∷ mark OpenBrace ∷ values_tokens vs ++ mark CloseBrace ∷ [])) (among_of (cut_name (cut_name f)) y vs)) (cut_again x) (a_choice_of (cut_name f) (cut_name x) (written_values s))))
+written_spells asked (a_universal x k {ts} {f} s) =
+    placed asked prefix_level (subst (λ (y : List ℕ). SpellsFormula prefix_level (quantified_tokens furthers.All (cut_name x) (cut_name k) (formula_tokens whole_level f)) (for_all y (cut_name k) f)) (cut_again x)
+    (subst (λ (z : List ℕ). SpellsFormula prefix_level (quantified_tokens furthers.All (cut_name x) (cut_name k) (formula_tokens whole_level f)) (for_all (cut_name (cut_name x)) z f)) (cut_again k) (a_universal (cut_name x) (cut_name k) (written_spells whole_level s))))
+written_spells asked (an_existential x k {ts} {f} s) =
+    placed asked prefix_level (subst (λ (y : List ℕ). SpellsFormula prefix_level (quantified_tokens furthers.Some (cut_name x) (cut_name k) (formula_tokens whole_level f)) (for_some y (cut_name k) f)) (cut_again x)
+    (subst (λ (z : List ℕ). SpellsFormula prefix_level (quantified_tokens furthers.Some (cut_name x) (cut_name k) (formula_tokens whole_level f)) (for_some (cut_name (cut_name x)) z f)) (cut_again k) (an_existential (cut_name x) (cut_name k) (written_spells whole_level s))))
 written_spells asked (a_choice x {ts} {vs} s) =
     primary_placed asked (subst (λ (y : List ℕ). SpellsFormula primary_level (name (cut_name x) ∷ keyword keywords.In ∷ mark OpenBrace ∷ values_tokens vs ++ mark CloseBrace ∷ []) (among y vs)) (cut_again x) (a_choice (cut_name x) (written_values s)))
 written_spells asked (a_primary s) = written_spells asked s

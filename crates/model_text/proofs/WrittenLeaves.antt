@@ -1,32 +1,18 @@
 -- Names, numbers, bounds and values are written so that they count as the same.
 use Rattle.std.proofs.Common.{◌≡◌, ℕ, zero, suc, ◌+◌, ◌-◌, ◌*◌, ◌<◌, ◌≤◌, Bool, true, false, List, [], ◌∷◌, ◌++◌, length, take, Some, refl, sym, ap, ◌∙◌, arith}
 use Rattle.std.specs.Prelude.{◌/◌, ◌%◌, ◌^◌, ◌==◌, ◌&&◌, not, min, pos, neg_ℤ, decimal, if◌then◌else◌}
-use Rattle.std.proofs.lemmas.Fmt.{decimal_by_steps}
 use Rattle.std.proofs.lemmas.List.{take_all, length-take}
+use Rattle.source_sink.proofs.DigitValues.{decimal_value}
 use Rattle.state_space.specs.declared.keyword.Keyword.TheVariants as keywords
 use Rattle.temporal_logic.specs.Ltl.{Relation, is_same, is_other, is_below, is_at_most, is_above, is_at_least}
 use Rattle.model_text.specs.Tokens.{TokenForm, keyword, name, number}
-use Rattle.model_text.specs.RawTrees.{WrittenValue, a_word, a_number, a_truth}
-use Rattle.model_text.specs.Leaves.{cut_name, value_behind, magnitude, number_value, bound_value, relation_of, value_of}
+use Rattle.model_text.specs.RawTrees.{WrittenValue, a_word, a_number, a_truth, an_attribute}
+use Rattle.model_text.specs.Leaves.{cut_name, magnitude, number_value, bound_value, relation_of, value_of}
 use Rattle.model_text.specs.Writing.{number_token, value_token, sign_of}
 
 -- a name that was cut is cut no further
 pub cut_again : (x : List ℕ) → cut_name (cut_name x) ≡ cut_name x
 cut_again x = let short : length (take 40 x) ≤ 40 = omega (arith, length-take 40 x) in take_all 40 (take 40 x) short
-
-behind_more : (front : ℕ) (digits : List ℕ) (digit : ℕ) → value_behind front (digits ++ digit ∷ []) ≡ 10 * value_behind front digits + (digit - 48)
-behind_more front [] digit = refl
-behind_more front (d ∷ digits) digit = behind_more (10 * front + (d - 48)) digits digit
-
--- the value of the digits of a number
-pub decimal_value : (n : ℕ) → n < 2 ^ 64 → value_behind 0 (decimal n) ≡ n
-decimal_value n h = decimal_by_steps (λ m digits. value_behind 0 digits ≡ m) one more n h
-  where
-    one : (m : ℕ) → m < 10 → value_behind 0 ((48 + m) ∷ []) ≡ m
-    one m l = omega arith
-
-    more : (m : ℕ) (digits : List ℕ) → 10 ≤ m → value_behind 0 digits ≡ m / 10 → value_behind 0 (digits ++ (48 + m % 10) ∷ []) ≡ m
-    more m digits l e = omega (arith, behind_more 0 digits (48 + m % 10), e)
 
 pub magnitude_again : (n : ℕ) → n ≤ 1000000001 → magnitude (decimal n) ≡ n
 unfolding magnitude
@@ -75,20 +61,28 @@ pub value_again : (t : TokenForm) (v : WrittenValue) → value_of t ≡ Some v �
 value_again (name x) (a_word y) e = let is : cut_name x ≡ y = cc in ap (λ z. Some (a_word z)) (ap cut_name (sym is) ∙ cut_again x ∙ is)
 value_again (name x) (a_number n) e = absurd cc
 value_again (name x) (a_truth b) e = absurd cc
+value_again (name x) (an_attribute f y) e = absurd cc
 value_again (number s d) (a_word y) e = absurd cc
 value_again (number s d) (a_number n) e =
     let is : number_value s d ≡ n = cc in
     let again = number_again s d in
     ap value_of (ap number_token (sym is) ∙ again.2) ∙ ap (λ z. Some (a_number z)) (again.3 ∙ is)
 value_again (number s d) (a_truth b) e = absurd cc
+value_again (number s d) (an_attribute f y) e = absurd cc
 value_again t (a_truth true) e = refl
 value_again t (a_truth false) e = refl
 value_again (keyword keywords.True) (a_word y) e = absurd cc
 value_again (keyword keywords.True) (a_number n) e = absurd cc
+value_again (keyword keywords.True) (an_attribute f y) e = absurd cc
 value_again (keyword keywords.False) (a_word y) e = absurd cc
 value_again (keyword keywords.False) (a_number n) e = absurd cc
+value_again (keyword keywords.False) (an_attribute f y) e = absurd cc
 value_again t v e = absurd cc
 
 pub one_again : number_value false (decimal 1) ≡ pos 1
 unfolding number_value
 one_again = ap pos (magnitude_again 1 (omega arith))
+
+pub two_again : number_value false (decimal 2) ≡ pos 2
+unfolding number_value
+two_again = ap pos (magnitude_again 2 (omega arith))

@@ -4,16 +4,16 @@ use Rattle.std.specs.Prelude.{ℤ, map, flat_map, decimal}
 use Rattle.state_space.specs.declared.keyword.Keyword.{Keyword}
 use Rattle.state_space.specs.declared.keyword.Keyword.TheVariants as keywords
 use Rattle.state_space.specs.Ranges.{RangeForm, span}
-use Rattle.model_text.specs.declared.token.Mark.TheVariants.{Semicolon, Colon, Comma, Equal, Dots}
+use Rattle.model_text.specs.declared.token.Sign.TheVariants.{Semicolon, Colon, Comma, Equal, Dots}
 use Rattle.model_text.specs.declared.statement.Role.{Role}
 use Rattle.model_text.specs.Tokens.{TokenForm, keyword, mark, name, number}
 use Rattle.model_text.specs.Leaves.{cut_name, number_value}
 use Rattle.model_text.specs.FormulaGrammar.{whole_level, iff_level}
-use Rattle.model_text.specs.Statements.{Setting, StatementForm, variable, domain, rule, goal, obstacle, refinement, obstruction, conflict, agent, assignment, expectation, operation, requirement, operationalisation, trace}
-use Rattle.model_text.specs.Grammar.{SpellsNames, one_name, more_names, SpellsPart, no_part, a_part, SpellsPattern, no_pattern, a_pattern, SpellsExact, not_exact, is_exact, SpellsRole, a_pre, a_trig, a_post, SpellsRange, a_boolean, an_enumeration, a_span, SpellsSets, one_set, more_sets, SpellsState, an_empty_state, a_state, SpellsStates, no_state, one_more_state, SpellsStatement, a_variable, a_domain, a_rule, a_goal, an_obstacle, a_refinement, an_obstruction, a_conflict, an_agent, an_assignment, an_expectation, an_operation, a_requirement, an_operationalisation, a_trace, SpellsStatements, no_statement, one_more, SpellsText, a_text}
+use Rattle.model_text.specs.Statements.{Setting, StatementForm, variable, entity_type, attribute, domain, rule, goal, obstacle, refinement, obstruction, conflict, agent, assignment, expectation, operation, requirement, operationalisation, trace}
+use Rattle.model_text.specs.Grammar.{SpellsNames, one_name, more_names, SpellsPart, no_part, a_part, SpellsPattern, no_pattern, a_pattern, SpellsExact, not_exact, is_exact, SpellsRole, a_pre, a_trig, a_post, SpellsRange, a_boolean, an_enumeration, a_span, SpellsSets, one_set, more_sets, SpellsState, an_empty_state, a_state, SpellsStates, no_state, one_more_state, SpellsStatement, a_variable, an_entity_type, an_attribute, a_domain, a_rule, a_goal, an_obstacle, a_refinement, an_obstruction, a_conflict, an_agent, an_assignment, an_expectation, an_operation, a_requirement, an_operationalisation, a_trace, SpellsStatements, no_statement, one_more, SpellsText, a_text, a_second_text}
 use Rattle.model_text.specs.Writing.{number_token, value_token, separated, names_tokens, whole_tokens, range_tokens, part_tokens, pattern_tokens, exact_tokens, role_token, set_tokens, state_tokens, statement_tokens}
 use Rattle.model_text.specs.Lines.{ended_tokens}
-use Rattle.model_text.proofs.WrittenLeaves.{cut_again, number_again, value_again, one_again}
+use Rattle.model_text.proofs.WrittenLeaves.{cut_again, number_again, value_again, one_again, two_again}
 use Rattle.model_text.proofs.WrittenFormulas.{written_spells}
 
 -- ---- parts
@@ -90,6 +90,8 @@ same_names P x y p = subst (λ (z : List ℕ). P z (cut_name y)) (cut_again x) (
 pub written_statement_spells : {ts : List TokenForm} {s : StatementForm} → SpellsStatement ts s → SpellsStatement (statement_tokens s) s
 unfolding statement_tokens
 written_statement_spells (a_variable x {ts} {r} s) = same_name (λ y. SpellsStatement (statement_tokens (variable (cut_name x) r)) (variable y r)) x (a_variable (cut_name x) (written_range s))
+written_statement_spells (an_entity_type x {ts} {xs} s) = same_name (λ y. SpellsStatement (statement_tokens (entity_type (cut_name x) xs)) (entity_type y xs)) x (an_entity_type (cut_name x) (written_names s))
+written_statement_spells (an_attribute x y {ts} {r} s) = same_names (λ z w. SpellsStatement (statement_tokens (attribute (cut_name x) (cut_name y) r)) (attribute z w r)) x y (an_attribute (cut_name x) (cut_name y) (written_range s))
 written_statement_spells (a_domain x {ts} {f} s) = same_name (λ y. SpellsStatement (statement_tokens (domain (cut_name x) f)) (domain y f)) x (a_domain (cut_name x) (written_spells whole_level s))
 written_statement_spells (a_rule x {ts} {us} {f} {g} s t) =
     same_name (λ y. SpellsStatement (statement_tokens (rule (cut_name x) f g)) (rule y f g)) x (a_rule (cut_name x) (written_spells iff_level s) (written_spells iff_level t))
@@ -126,3 +128,4 @@ written_statements_spell (one_more {ts} {us} {s} {ss} a r) =
 pub written_text_spells : {ts : List TokenForm} {ss : List StatementForm} → SpellsText ts ss → SpellsText (flat_map ended_tokens ss) ss
 unfolding statement_tokens
 written_text_spells (a_text b d {ts} {ss} is s) = a_text false (decimal 1) one_again (written_statements_spell s)
+written_text_spells (a_second_text b d {ts} {ss} is s) = a_second_text false (decimal 2) two_again (written_statements_spell s)

@@ -1,6 +1,8 @@
 -- Which tokens spell which statements:
---   text      = "kaos" "1" ";" { statement ";" }
+--   text      = "kaos" ( "1" | "2" ) ";" { statement ";" }
 --   statement = "var" name ":" range
+--             | "entity" name ":" "{" names "}"
+--             | "attr" name "of" name ":" range
 --             | "domain" name ":" formula
 --             | "rule" name ":" iff "entails" iff
 --             | "goal" name ":" formula
@@ -19,20 +21,21 @@
 --   names     = name { "," name }
 --   state     = "{" [ set { "," set } ] "}"
 --   set       = name "=" value
--- The levels formula and iff are those of FormulaGrammar.
+-- The levels formula and iff are those of FormulaGrammar. The words `entity` and `attr` are tokens that only texts of version 2 have.
 use Rattle.std.specs.Prelude.{◌≡◌, ℕ, pos, Bool, true, false, List, [], ◌∷◌, ◌++◌, Option, Some, None}
 use Rattle.state_space.specs.declared.keyword.Keyword.{Keyword}
 use Rattle.state_space.specs.declared.keyword.Keyword.TheVariants as keywords
 use Rattle.state_space.specs.Ranges.{RangeForm, truth_values, named, span}
-use Rattle.model_text.specs.declared.token.Mark.TheVariants.{Semicolon, Colon, Comma, Equal, Dots, OpenBrace, CloseBrace}
+use Rattle.model_text.specs.declared.token.Sign.TheVariants.{Semicolon, Colon, Comma, Equal, Dots, OpenBrace, CloseBrace}
+use Rattle.model_text.specs.declared.token.Further.TheVariants as furthers
 use Rattle.model_text.specs.declared.statement.Role.{Role}
 use Rattle.model_text.specs.declared.statement.Role.TheVariants as roles
-use Rattle.model_text.specs.Tokens.{TokenForm, keyword, mark, name, number}
-use Rattle.model_text.specs.Lexing.{forms_of}
+use Rattle.model_text.specs.Tokens.{TokenForm, keyword, mark, name, number, further}
+use Rattle.model_text.specs.Versions.{text_forms}
 use Rattle.model_text.specs.RawTrees.{WrittenValue, RawTree}
 use Rattle.model_text.specs.FormulaGrammar.{whole_level, iff_level, SpellsFormula}
 use Rattle.model_text.specs.Leaves.{cut_name, number_value, value_of}
-use Rattle.model_text.specs.Statements.{Setting, StatementForm, version, variable, domain, rule, goal, obstacle, refinement, obstruction, conflict, agent, assignment, expectation, operation, requirement, operationalisation, trace}
+use Rattle.model_text.specs.Statements.{Setting, StatementForm, version, variable, entity_type, attribute, domain, rule, goal, obstacle, refinement, obstruction, conflict, agent, assignment, expectation, operation, requirement, operationalisation, trace}
 
 -- name { "," name }
 pub data SpellsNames : List TokenForm → List (List ℕ) → Type 0 where
@@ -54,11 +57,13 @@ pub data SpellsExact : List TokenForm → Bool → Type 0 where
   not_exact : SpellsExact [] false
   is_exact : SpellsExact (keyword keywords.Exact ∷ []) true
 
+-- "pre" | "trig" | "post"
 pub data SpellsRole : TokenForm → Role → Type 0 where
   a_pre : SpellsRole (keyword keywords.Pre) roles.Pre
   a_trig : SpellsRole (keyword keywords.Trig) roles.Trig
   a_post : SpellsRole (keyword keywords.Post) roles.Post
 
+-- range = "bool" | "{" names "}" | number ".." number
 pub data SpellsRange : List TokenForm → RangeForm → Type 0 where
   a_boolean : SpellsRange (keyword keywords.Bool ∷ []) truth_values
   an_enumeration : {ts : List TokenForm} {xs : List (List ℕ)} → SpellsNames ts xs → SpellsRange (mark OpenBrace ∷ ts ++ mark CloseBrace ∷ []) (named xs)
@@ -70,6 +75,7 @@ pub data SpellsSets : List TokenForm → List Setting → Type 0 where
   more_sets : (x : List ℕ) (t : TokenForm) (v : WrittenValue) {ts : List TokenForm} {sets : List Setting} → value_of t ≡ Some v → SpellsSets ts sets
       → SpellsSets (name x ∷ mark Equal ∷ t ∷ mark Comma ∷ ts) ((record { variable = cut_name x; value = v }) ∷ sets)
 
+-- state = "{" [ set { "," set } ] "}"
 pub data SpellsState : List TokenForm → List Setting → Type 0 where
   an_empty_state : SpellsState (mark OpenBrace ∷ mark CloseBrace ∷ []) []
   a_state : {ts : List TokenForm} {sets : List Setting} → SpellsSets ts sets → SpellsState (mark OpenBrace ∷ ts ++ mark CloseBrace ∷ []) sets
@@ -79,8 +85,13 @@ pub data SpellsStates : List TokenForm → List (List Setting) → Type 0 where
   no_state : SpellsStates [] []
   one_more_state : {ts us : List TokenForm} {s : List Setting} {ss : List (List Setting)} → SpellsState ts s → SpellsStates us ss → SpellsStates (ts ++ us) (s ∷ ss)
 
+-- the tokens spell this statement, without its semicolon: one constructor for each alternative of the grammar above, in its order
 pub data SpellsStatement : List TokenForm → StatementForm → Type 0 where
   a_variable : (x : List ℕ) {ts : List TokenForm} {r : RangeForm} → SpellsRange ts r → SpellsStatement (keyword keywords.Var ∷ name x ∷ mark Colon ∷ ts) (variable (cut_name x) r)
+  an_entity_type : (x : List ℕ) {ts : List TokenForm} {xs : List (List ℕ)} → SpellsNames ts xs
+      → SpellsStatement (further furthers.Entity ∷ name x ∷ mark Colon ∷ mark OpenBrace ∷ ts ++ mark CloseBrace ∷ []) (entity_type (cut_name x) xs)
+  an_attribute : (x e : List ℕ) {ts : List TokenForm} {r : RangeForm} → SpellsRange ts r
+      → SpellsStatement (further furthers.Attr ∷ name x ∷ keyword keywords.Of ∷ name e ∷ mark Colon ∷ ts) (attribute (cut_name x) (cut_name e) r)
   a_domain : (x : List ℕ) {ts : List TokenForm} {f : RawTree} → SpellsFormula whole_level ts f → SpellsStatement (keyword keywords.Domain ∷ name x ∷ mark Colon ∷ ts) (domain (cut_name x) f)
   a_rule : (x : List ℕ) {ts us : List TokenForm} {f g : RawTree} → SpellsFormula iff_level ts f → SpellsFormula iff_level us g
       → SpellsStatement (keyword keywords.Rule ∷ name x ∷ mark Colon ∷ ts ++ keyword keywords.Entails ∷ us) (rule (cut_name x) f g)
@@ -109,11 +120,13 @@ pub data SpellsStatements : List TokenForm → List StatementForm → Type 0 whe
   no_statement : SpellsStatements [] []
   one_more : {ts us : List TokenForm} {s : StatementForm} {ss : List StatementForm} → SpellsStatement ts s → SpellsStatements us ss → SpellsStatements (ts ++ mark Semicolon ∷ us) (s ∷ ss)
 
--- the version is any number of value 1
+-- the version is any number of value 1 or 2
 pub data SpellsText : List TokenForm → List StatementForm → Type 0 where
   a_text : (negative : Bool) (digits : List ℕ) {ts : List TokenForm} {ss : List StatementForm} → number_value negative digits ≡ pos 1 → SpellsStatements ts ss
       → SpellsText (keyword keywords.Kaos ∷ number negative digits ∷ mark Semicolon ∷ ts) (version 1 ∷ ss)
+  a_second_text : (negative : Bool) (digits : List ℕ) {ts : List TokenForm} {ss : List StatementForm} → number_value negative digits ≡ pos 2 → SpellsStatements ts ss
+      → SpellsText (keyword keywords.Kaos ∷ number negative digits ∷ mark Semicolon ∷ ts) (version 2 ∷ ss)
 
--- these bytes spell this list of statements
+-- these bytes spell this list of statements, in the tokens of their version
 abbrev pub Spells : List ℕ → List StatementForm → Type 0
-Spells bytes statements = SpellsText (forms_of bytes) statements
+Spells bytes statements = SpellsText (text_forms bytes) statements

@@ -2,13 +2,16 @@
 -- and `{`, and none on either side of `..`.
 use Rattle.std.specs.Prelude.{ℕ, Bool, true, false, ◌||◌, List, [], ◌∷◌, ◌++◌, codes, flat_map, if◌then◌else◌}
 use Rattle.state_space.specs.Keywords.{spelling}
-use Rattle.model_text.specs.declared.token.Mark.{Mark}
-use Rattle.model_text.specs.declared.token.Mark.TheVariants.{Semicolon, Colon, Comma, OpenParenthesis, CloseParenthesis, OpenBrace, CloseBrace, Equal, NotEqual, Below, AtMost, Above, AtLeast, Dots}
-use Rattle.model_text.specs.Tokens.{TokenForm, keyword, mark, name, number, stray, bad_byte}
+use Rattle.model_text.specs.declared.token.Sign.{Sign}
+use Rattle.model_text.specs.declared.token.Sign.TheVariants.{Semicolon, Colon, Comma, OpenParenthesis, CloseParenthesis, OpenBrace, CloseBrace, Equal, NotEqual, Below, AtMost, Above, AtLeast, Dots}
+use Rattle.model_text.specs.declared.token.Further.{Further}
+use Rattle.model_text.specs.declared.token.Further.TheVariants as furthers
+use Rattle.model_text.specs.Tokens.{TokenForm, keyword, mark, name, number, further, stray, bad_byte}
 use Rattle.model_text.specs.Statements.{StatementForm}
 use Rattle.model_text.specs.Writing.{statement_tokens}
 
-abbrev pub sign_bytes : Mark → List ℕ
+-- how a sign is written
+abbrev pub sign_bytes : Sign → List ℕ
 sign_bytes Semicolon = codes ";"
 sign_bytes Colon = codes ":"
 sign_bytes Comma = codes ","
@@ -24,12 +27,21 @@ sign_bytes Above = codes ">"
 sign_bytes AtLeast = codes ">="
 sign_bytes Dots = codes ".."
 
+-- how a token is written that only version 2 has
+abbrev pub further_bytes : Further → List ℕ
+further_bytes furthers.Entity = codes "entity"
+further_bytes furthers.Attr = codes "attr"
+further_bytes furthers.All = codes "all"
+further_bytes furthers.Some = codes "some"
+further_bytes furthers.OpenArgument = codes "("
+
 -- the bytes of a token: 45 is `-`
 abbrev pub token_bytes : TokenForm → List ℕ
 token_bytes (keyword word) = spelling word
 token_bytes (mark sign) = sign_bytes sign
 token_bytes (name bytes) = bytes
 token_bytes (number negative digits) = if negative then 45 ∷ digits else digits
+token_bytes (further sign) = further_bytes sign
 token_bytes stray = []
 token_bytes bad_byte = []
 
@@ -48,6 +60,7 @@ abbrev pub holds_on : TokenForm → Bool
 holds_on (mark OpenParenthesis) = true
 holds_on (mark OpenBrace) = true
 holds_on (mark Dots) = true
+holds_on (further furthers.OpenArgument) = true
 holds_on _ = false
 
 -- the space before a token, behind one that no space stands behind or another

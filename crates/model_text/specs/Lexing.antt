@@ -5,8 +5,8 @@ use Rattle.std.specs.List.{list_all}
 use Rattle.state_space.specs.declared.keyword.Keyword.{Keyword}
 use Rattle.state_space.specs.Keywords.{keyword_of}
 use Rattle.state_space.specs.Names.{is_word_byte, has_name_form}
-use Rattle.model_text.specs.declared.token.Mark.{Mark}
-use Rattle.model_text.specs.declared.token.Mark.TheVariants.{Semicolon, Colon, Comma, OpenParenthesis, CloseParenthesis, OpenBrace, CloseBrace, Equal, NotEqual, Below, AtMost, Above, AtLeast, Dots}
+use Rattle.model_text.specs.declared.token.Sign.{Sign}
+use Rattle.model_text.specs.declared.token.Sign.TheVariants.{Semicolon, Colon, Comma, OpenParenthesis, CloseParenthesis, OpenBrace, CloseBrace, Equal, NotEqual, Below, AtMost, Above, AtLeast, Dots}
 use Rattle.model_text.specs.Tokens.{TokenForm, keyword, mark, name, number, stray, bad_byte, Placed}
 
 -- what stands directly before a byte: nothing that it could go on with, a comment, a word (with `-` before it or not), or a sign that may have a second byte
@@ -16,16 +16,18 @@ pub data Before : Type 0 where
   within : (from : ℕ) (negative : Bool) (word : List ℕ) → Before
   behind : (from byte : ℕ) → Before
 
+-- a single token, by the place of its first byte
 abbrev one : ℕ → TokenForm → List Placed
 one at form = record { at = at; form = form } ∷ []
 
--- a keyword, else a name, else a number, else no token
+-- a word that is no keyword: a name, else a number, else no token
 abbrev pub plain_word : List ℕ → TokenForm
 plain_word word =
     if has_name_form word then name word else
     if list_all is_ascii_digit word then number false word else
     stray
 
+-- the token of a word: the keyword that it is, if it is one
 abbrev pub word_form : Option Keyword → List ℕ → TokenForm
 word_form (Some k) word = keyword k
 word_form None word = plain_word word
@@ -53,7 +55,7 @@ ended (within from true word) = negative_word from word
 ended (behind from byte) = one from (lone_form byte)
 
 -- the sign of two bytes: `!=`, `<=`, `>=` and `..`
-abbrev pub pair_of : ℕ → ℕ → Option Mark
+abbrev pub pair_of : ℕ → ℕ → Option Sign
 pair_of first second =
     if first == 33 && second == 61 then Some NotEqual else
     if first == 60 && second == 61 then Some AtMost else
@@ -70,7 +72,7 @@ abbrev pub may_go_on : ℕ → Bool
 may_go_on byte = byte == 33 || byte == 60 || byte == 62 || byte == 46 || byte == 45
 
 -- the sign that a byte is by itself
-abbrev pub single_of : ℕ → Option Mark
+abbrev pub single_of : ℕ → Option Sign
 single_of byte =
     if byte == 59 then Some Semicolon else
     if byte == 58 then Some Colon else
@@ -83,11 +85,12 @@ single_of byte =
     None
 
 -- the token that a byte is by itself, at a place where nothing goes on: none where it is blank or begins a comment, a word or a longer sign
-abbrev pub alone_form : Option Mark → ℕ → List TokenForm
+abbrev pub alone_form : Option Sign → ℕ → List TokenForm
 alone_form (Some m) byte = mark m ∷ []
 alone_form None byte =
     if is_blank byte || byte == 35 || is_word_byte byte || may_go_on byte then [] else bad_byte ∷ []
 
+-- the same token, by the place of the byte
 unfoldable pub alone : ℕ → ℕ → List Placed
 alone at byte = map (λ form. record { at = at; form = form }) (alone_form (single_of byte) byte)
 
@@ -99,13 +102,14 @@ fresh at byte =
     if byte == 35 then comment else
     between
 
--- a sign with its second byte, or a `-` before a word
-abbrev pub behind_next : Option Mark → ℕ → ℕ → ℕ → ℕ → Before
+-- what stands before the next byte, where a byte stood before this one that may have a second: a whole sign, a `-` before a word, or this byte anew
+abbrev pub behind_next : Option Sign → ℕ → ℕ → ℕ → ℕ → Before
 behind_next (Some m) from first at byte = between
 behind_next None from first at byte =
     if first == 45 && is_word_byte byte then within from true (byte ∷ []) else fresh at byte
 
-abbrev pub behind_emitted : Option Mark → ℕ → ℕ → ℕ → ℕ → List Placed
+-- the tokens that end here, where such a byte stood before: none while a `-` may still begin a number
+abbrev pub behind_emitted : Option Sign → ℕ → ℕ → ℕ → ℕ → List Placed
 behind_emitted (Some m) from first at byte = one from (mark m)
 behind_emitted None from first at byte =
     if first == 45 && is_word_byte byte then [] else one from (lone_form first) ++ alone at byte

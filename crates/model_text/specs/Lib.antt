@@ -1,10 +1,11 @@
 pub mod Tokens
 pub mod Lexing
-pub mod Seen
+pub mod LexerView
 pub mod RawTrees
 pub mod Leaves
+pub mod Versions
 pub mod FormulaGrammar
-pub mod RawSeen
+pub mod RawView
 pub mod Reading
 pub mod Statements
 pub mod Grammar
@@ -15,5 +16,6 @@ pub mod Writing
 pub mod Layout
 pub mod Lines
 pub mod Writable
+pub mod Places
 pub mod Limits
 pub mod Readability

@@ -2,15 +2,16 @@
 use Rattle.std.specs.Prelude.{ℕ, ◌+◌, max, Bool, true, false, ◌||◌, not, List, [], ◌∷◌, length, count_by, nat_le, nat_lt, Option, Some, None, if◌then◌else◌}
 use Rattle.std.specs.List.{list_all, list_any}
 use Rattle.state_space.specs.declared.keyword.Keyword.TheVariants as keywords
-use Rattle.model_text.specs.declared.token.Mark.TheVariants.{Semicolon, OpenParenthesis}
+use Rattle.model_text.specs.declared.token.Sign.TheVariants.{Semicolon, OpenParenthesis}
+use Rattle.model_text.specs.declared.token.Further.TheVariants as furthers
 use Rattle.model_text.specs.declared.limits.LimitKind.{LimitKind}
 use Rattle.model_text.specs.declared.limits.LimitKind.TheVariants.{Statements, Links, Parts, NameLength, Number, Bound, Depth}
-use Rattle.model_text.specs.Tokens.{TokenForm, keyword, mark, name, number}
+use Rattle.model_text.specs.Tokens.{TokenForm, keyword, mark, name, number, further}
 use Rattle.model_text.specs.Leaves.{magnitude}
-use Rattle.model_text.specs.RawTrees.{RawTree, neg, next, eventually, always, eventually_within, always_within, conj, disj, implies, iff, entails, until, unless, release, until_within, unless_within, release_within}
+use Rattle.model_text.specs.RawTrees.{RawTree, neg, next, eventually, always, eventually_within, always_within, conj, disj, implies, iff, entails, until, unless, release, until_within, unless_within, release_within, for_all, for_some}
 use Rattle.model_text.specs.Statements.{StatementForm, domain, rule, goal, obstacle, refinement, obstruction, conflict, assignment, operation, requirement, operationalisation}
 
--- an operator or an open parenthesis
+-- an operator, a quantifier or an open parenthesis
 abbrev pub is_operator : TokenForm → Bool
 is_operator (mark OpenParenthesis) = true
 is_operator (keyword keywords.Entails) = true
@@ -25,8 +26,12 @@ is_operator (keyword keywords.Not) = true
 is_operator (keyword keywords.Next) = true
 is_operator (keyword keywords.Eventually) = true
 is_operator (keyword keywords.Always) = true
+is_operator (further furthers.All) = true
+is_operator (further furthers.Some) = true
+is_operator (further furthers.OpenArgument) = true
 is_operator _ = false
 
+-- the end of a statement
 abbrev pub is_semicolon : TokenForm → Bool
 is_semicolon (mark Semicolon) = true
 is_semicolon _ = false
@@ -66,6 +71,7 @@ parts_of (conflict x xs boundary) = length xs
 parts_of (operationalisation x xs exact) = length xs
 parts_of _ = 0
 
+-- more than 16 subgoals, obstacles, goals or requirements
 abbrev pub has_many_parts : StatementForm → Bool
 has_many_parts s = nat_lt 16 (parts_of s)
 
@@ -103,6 +109,8 @@ has_wide_bound (release a b) = has_wide_bound a || has_wide_bound b
 has_wide_bound (until_within d a b) = is_wide d || (has_wide_bound a || has_wide_bound b)
 has_wide_bound (unless_within d a b) = is_wide d || (has_wide_bound a || has_wide_bound b)
 has_wide_bound (release_within d a b) = is_wide d || (has_wide_bound a || has_wide_bound b)
+has_wide_bound (for_all x e a) = has_wide_bound a
+has_wide_bound (for_some x e a) = has_wide_bound a
 has_wide_bound _ = false
 
 -- the number of levels of a formula; parentheses make none
@@ -124,8 +132,11 @@ depth_of (release a b) = 1 + max (depth_of a) (depth_of b)
 depth_of (until_within d a b) = 1 + max (depth_of a) (depth_of b)
 depth_of (unless_within d a b) = 1 + max (depth_of a) (depth_of b)
 depth_of (release_within d a b) = 1 + max (depth_of a) (depth_of b)
+depth_of (for_all x e a) = 1 + depth_of a
+depth_of (for_some x e a) = 1 + depth_of a
 depth_of _ = 1
 
+-- a formula of more than 100 levels
 abbrev pub is_deep : RawTree → Bool
 is_deep f = nat_lt 100 (depth_of f)
 

@@ -1,8 +1,8 @@
--- Readers made of readers.
+-- Readers made of readers: one part behind another, one way or another, and lists.
 use Rattle.std.specs.Prelude.{ℕ, zero, suc, List, [], ◌∷◌, ◌++◌, length, Ok, Err}
 use Rattle.state_space.specs.declared.keyword.Keyword.{Keyword}
-use Rattle.model_text.specs.declared.token.Mark.{Mark}
-use Rattle.model_text.specs.declared.token.Mark.TheVariants.{Comma}
+use Rattle.model_text.specs.declared.token.Sign.{Sign}
+use Rattle.model_text.specs.declared.token.Sign.TheVariants.{Comma}
 use Rattle.model_text.specs.Tokens.{TokenForm}
 use Rattle.model_text.specs.Reading.{Reading, and_then, behind_keyword, behind_mark}
 use Rattle.model_text.specs.FormulaReading.{if_behind, read_as}
@@ -24,7 +24,7 @@ unfoldable pub if_word : {A : Type 0} → Keyword → (here other : Reader A) �
 if_word word here other ts = if_behind (behind_keyword word ts) here (other ts)
 
 -- one way behind a sign, and another where it does not come
-unfoldable pub if_sign : {A : Type 0} → Mark → (here other : Reader A) → Reader A
+unfoldable pub if_sign : {A : Type 0} → Sign → (here other : Reader A) → Reader A
 if_sign sign here other ts = if_behind (behind_mark sign ts) here (other ts)
 
 -- nothing is read
@@ -36,7 +36,7 @@ abbrev pub nowhere : {A : Type 0} → Reader A
 nowhere ts = Err ts
 
 -- parts behind those that are read already, each behind a sign: the number bounds how many
-unfoldable pub more_at : {A : Type 0} → Mark → Reader A → ℕ → List A → Reader (List A)
+unfoldable pub more_at : {A : Type 0} → Sign → Reader A → ℕ → List A → Reader (List A)
 more_at sign one zero front ts = Ok (front, ts)
 more_at sign one (suc n) front ts =
     if_behind (behind_mark sign ts) (λ us. and_then (one us) (λ x rest. more_at sign one n (front ++ x ∷ []) rest)) (Ok (front, ts))

@@ -8,16 +8,19 @@ use Rattle.model_text.specs.declared.statement.StatementKind.TheVariants as kind
 use Rattle.model_text.specs.declared.statement.Statement as code
 use Rattle.model_text.specs.declared.statement.RawModel.{RawModel}
 use Rattle.model_text.specs.RawTrees.{WrittenValue, RawTree}
-use Rattle.model_text.specs.RawSeen.{written, raw_tree}
+use Rattle.model_text.specs.RawView.{written, raw_tree}
 
 -- a value of a variable in a state
 pub record Setting : Type 0 where
   pub variable : List ℕ
   pub value : WrittenValue
 
+-- what a statement says: names as their bytes, formulas as trees, lists in the order in which they are written
 pub data StatementForm : Type 0 where
   version : (number : ℕ) → StatementForm
   variable : (x : List ℕ) (range : RangeForm) → StatementForm
+  entity_type : (x : List ℕ) (members : List (List ℕ)) → StatementForm
+  attribute : (x entity : List ℕ) (range : RangeForm) → StatementForm
   domain : (x : List ℕ) (body : RawTree) → StatementForm
   rule : (x : List ℕ) (cause effect : RawTree) → StatementForm
   goal : (x : List ℕ) (body : RawTree) → StatementForm
@@ -33,12 +36,16 @@ pub data StatementForm : Type 0 where
   operationalisation : (x : List ℕ) (requirements : List (List ℕ)) (exact : Bool) → StatementForm
   trace : (x : List ℕ) (prefix cycle : List (List Setting)) → StatementForm
 
+-- the values that a state of the code sets
 abbrev pub settings_of : RawState → List Setting
 settings_of state = map (λ s. record { variable = s.0; value = written s.1 }) state.sets.items
 
+-- the statement that one of the code stands for
 abbrev pub statement_of : kind.StatementKind → StatementForm
 statement_of (kinds.Version n) = version n
 statement_of (kinds.Var x range) = variable x (form_of range)
+statement_of (kinds.Entity x members) = entity_type x members.items
+statement_of (kinds.Attr x entity range) = attribute x entity (form_of range)
 statement_of (kinds.Domain x body) = domain x (raw_tree body)
 statement_of (kinds.Rule x cause effect) = rule x (raw_tree cause) (raw_tree effect)
 statement_of (kinds.Goal x body) = goal x (raw_tree body)
@@ -54,6 +61,7 @@ statement_of (kinds.Require x y role formula) = requirement x y role (raw_tree f
 statement_of (kinds.Operationalise x requirements exact) = operationalisation x requirements.items exact
 statement_of (kinds.Trace x prefix cycle) = trace x (map settings_of prefix.items) (map settings_of cycle.items)
 
+-- the statements that those of the code stand for, in order
 abbrev pub all_statements : List code.Statement → List StatementForm
 all_statements = map (λ s. statement_of s.kind)
 

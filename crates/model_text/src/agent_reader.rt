@@ -1,4 +1,6 @@
-//! The statements on agents and their operations.
+//! Readers of the statements on agents and their operations, one for each form of
+//! specs/Grammar.antt: each begins behind the keyword, and gives what the form of this name in
+//! specs/StatementReading.antt gives.
 
 ghost use Rattle.std.specs.Prelude.{◌<◌, length, OnOk};
 ghost use Rattle.model_text.specs.Statements.{statement_of};

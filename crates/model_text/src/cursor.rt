@@ -1,19 +1,19 @@
 //! A cursor over tokens: the one way in which the readers of formulas and statements see a text.
 //! A reader that answers `Syntax` leaves the cursor at the token that cannot stand there.
 
-ghost use Rattle.std.specs.Prelude.{◌≡◌, [], ◌∷◌, ◌+◌, ◌<◌, ◌≤◌, Some, None, ⊤, length, OnOk, MatchOption};
+ghost use Rattle.std.specs.Prelude.{◌≡◌, [], ◌∷◌, ◌+◌, ◌<◌, ◌≤◌, Some, None, ⊤, length, option_map, OnOk, MatchOption};
 ghost use Rattle.std.specs.Bool.{MatchBool};
 ghost use Rattle.temporal_logic.specs.Trees.{relation_of};
-ghost use Rattle.model_text.specs.Tokens.{keyword as keyword_form, mark as mark_form, number as number_form, form_of};
+ghost use Rattle.model_text.specs.Tokens.{keyword as keyword_form, mark as mark_form, number as number_form, further as further_form, form_of};
 ghost use Rattle.model_text.specs.Leaves.{relation_of as relation_of_mark};
-ghost use Rattle.model_text.specs.RawSeen.{written};
-ghost use Rattle.model_text.specs.FormulaReading.{number_behind, bound_at, comparison_at, value_at};
-ghost use Rattle.model_text.specs.Reading.{Gives, left, behind_keyword, behind_mark, keyword_at, mark_at, name_at};
+ghost use Rattle.model_text.specs.RawView.{written};
+ghost use Rattle.model_text.specs.FormulaReading.{number_behind, bound_at, comparison_at, value_at, argument_at, right_at};
+ghost use Rattle.model_text.specs.Reading.{Gives, left, behind_keyword, behind_mark, behind_further, keyword_at, mark_at, further_at, name_at};
 ghost use Rattle.model_text.specs.declared.cursor.Fault.TheVariants.{Memory as MemoryFault};
 
 use crate::numeral::Numeral;
 use crate::raw_formula::RawValue;
-use crate::token::{Kind, Mark, Token};
+use crate::token::{Further, Sign, Token, TokenKind};
 use state_space::{Keyword, Name, NameRefusal};
 use std::alloc::{AllocError, AllocFailed, Global};
 use temporal_logic::Cmp;
@@ -44,16 +44,16 @@ impl<T: Drop> From<AllocFailed<T>> for Fault {
 }
 
 // The comparison that a sign is.
-fn comparison_of(mark: Mark) -> Option<Cmp>
+fn comparison_of(mark: Sign) -> Option<Cmp>
     ensures { MatchOption result (relation_of_mark mark ≡ None) (λ c. relation_of_mark mark ≡ Some (relation_of c)) }
 {
     match mark {
-        Mark::Equal => Some(Cmp::Eq),
-        Mark::NotEqual => Some(Cmp::Ne),
-        Mark::Below => Some(Cmp::Lt),
-        Mark::AtMost => Some(Cmp::Le),
-        Mark::Above => Some(Cmp::Gt),
-        Mark::AtLeast => Some(Cmp::Ge),
+        Sign::Equal => Some(Cmp::Eq),
+        Sign::NotEqual => Some(Cmp::Ne),
+        Sign::Below => Some(Cmp::Lt),
+        Sign::AtMost => Some(Cmp::Le),
+        Sign::Above => Some(Cmp::Gt),
+        Sign::AtLeast => Some(Cmp::Ge),
         _ => None,
     }
 }
@@ -66,7 +66,7 @@ pub(crate) struct Cursor<'a, 't> {
 
 impl<'a, 't> Cursor<'a, 't> {
     /// Takes the next token.
-    pub(crate) fn next(&mut self) -> Option<Kind<'t>>
+    pub(crate) fn next(&mut self) -> Option<TokenKind<'t>>
         ensures { MatchOption result ((left self.old ≡ []) × (left self.new ≡ [])) (λ kind. left self.old ≡ form_of kind ∷ left self.new) }
     {
         match self.rest {
@@ -83,7 +83,7 @@ impl<'a, 't> Cursor<'a, 't> {
         ensures { MatchBool result (left self.old ≡ keyword_form wanted ∷ left self.new) ((behind_keyword wanted (left self.old) ≡ None) × (left self.new ≡ left self.old)) }
     {
         let rest = self.rest;
-        if let Some(Kind::Keyword(found)) = self.next() {
+        if let Some(TokenKind::Keyword(found)) = self.next() {
             if found == wanted {
                 return true;
             }
@@ -93,17 +93,43 @@ impl<'a, 't> Cursor<'a, 't> {
     }
 
     /// Takes a sign, if it comes next.
-    pub(crate) fn take_mark(&mut self, wanted: Mark) -> bool
+    pub(crate) fn take_mark(&mut self, wanted: Sign) -> bool
         ensures { MatchBool result (left self.old ≡ mark_form wanted ∷ left self.new) ((behind_mark wanted (left self.old) ≡ None) × (left self.new ≡ left self.old)) }
     {
         let rest = self.rest;
-        if let Some(Kind::Mark(found)) = self.next() {
+        if let Some(TokenKind::Sign(found)) = self.next() {
             if found == wanted {
                 return true;
             }
         }
         self.rest = rest;
         false
+    }
+
+    /// Takes a token that only version 2 has, if it comes next.
+    pub(crate) fn take_further(&mut self, wanted: Further) -> bool
+        ensures { MatchBool result (left self.old ≡ further_form wanted ∷ left self.new) ((behind_further wanted (left self.old) ≡ None) × (left self.new ≡ left self.old)) }
+    {
+        let rest = self.rest;
+        if let Some(TokenKind::Further(found)) = self.next() {
+            if found == wanted {
+                return true;
+            }
+        }
+        self.rest = rest;
+        false
+    }
+
+    /// Takes a token that only version 2 has, and that has to come next.
+    pub(crate) fn further(&mut self, wanted: Further) -> Result<(), Fault>
+        ensures exact { Gives (λ _. tt) result (left self.new) (further_at wanted (left self.old)) }
+        ensures shorter { OnOk result (length (left self.new) < length (left self.old)) }
+    {
+        if self.take_further(wanted) {
+            Ok(())
+        } else {
+            Err(Fault::Syntax)
+        }
     }
 
     /// Takes a keyword that has to come next.
@@ -119,7 +145,7 @@ impl<'a, 't> Cursor<'a, 't> {
     }
 
     /// Takes a sign that has to come next.
-    pub(crate) fn mark(&mut self, wanted: Mark) -> Result<(), Fault>
+    pub(crate) fn mark(&mut self, wanted: Sign) -> Result<(), Fault>
         ensures exact { Gives (λ _. tt) result (left self.new) (mark_at wanted (left self.old)) }
         ensures shorter { OnOk result (length (left self.new) < length (left self.old)) }
     {
@@ -137,7 +163,7 @@ impl<'a, 't> Cursor<'a, 't> {
         ensures shorter { OnOk result (length (left self.new) < length (left self.old)) }
     {
         let rest = self.rest;
-        if let Some(Kind::Name(word)) = self.next() {
+        if let Some(TokenKind::Name(word)) = self.next() {
             return word.name(alloc);
         }
         self.rest = rest;
@@ -149,7 +175,7 @@ impl<'a, 't> Cursor<'a, 't> {
         ensures { MatchOption result ((number_behind (left self.old) ≡ None) × (left self.new ≡ left self.old)) (λ n. left self.old ≡ number_form n.negative n.digits.now ∷ left self.new) }
     {
         let rest = self.rest;
-        if let Some(Kind::Number { negative, digits }) = self.next() {
+        if let Some(TokenKind::Number { negative, digits }) = self.next() {
             return Some(Numeral { negative, digits });
         }
         self.rest = rest;
@@ -177,7 +203,7 @@ impl<'a, 't> Cursor<'a, 't> {
         ensures shorter { MatchOption result ⊤ (λ _. length (left self.new) < length (left self.old)) }
     {
         let rest = self.rest;
-        if let Some(Kind::Mark(mark)) = self.next() {
+        if let Some(TokenKind::Sign(mark)) = self.next() {
             if let Some(comparison) = comparison_of(mark) {
                 return Some(comparison);
             }
@@ -202,5 +228,34 @@ impl<'a, 't> Cursor<'a, 't> {
             return Ok(RawValue::Number(number.value()));
         }
         Ok(RawValue::Word(self.name(alloc)?))
+    }
+
+    /// Takes a name in brackets, if brackets come next behind a name.
+    #[tactic(auto, unfolding(crate::specs::FormulaReading::argument_at))]
+    pub(crate) fn argument(&mut self, alloc: Global) -> Result<Option<Name>, Fault>
+        ensures exact { Gives (λ a. option_map (λ n. n) a) result (left self.new) (argument_at (left self.old)) }
+        ensures shorter { OnOk result (length (left self.new) ≤ length (left self.old)) }
+    {
+        if !self.take_further(Further::OpenArgument) {
+            return Ok(None);
+        }
+        let name = self.name(alloc)?;
+        self.mark(Sign::CloseParenthesis)?;
+        Ok(Some(name))
+    }
+
+    /// Takes what has to come next behind a comparison.
+    #[tactic(auto, unfolding(crate::specs::FormulaReading::right_at))]
+    pub(crate) fn right(&mut self, alloc: Global) -> Result<RawValue, Fault>
+        ensures exact { Gives written result (left self.new) (right_at (left self.old)) }
+        ensures shorter { OnOk result (length (left self.new) < length (left self.old)) }
+    {
+        match self.value(alloc)? {
+            RawValue::Word(name) => match self.argument(alloc)? {
+                Some(argument) => Ok(RawValue::Of(name, argument)),
+                None => Ok(RawValue::Word(name)),
+            },
+            value => Ok(value),
+        }
     }
 }

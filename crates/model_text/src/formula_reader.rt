@@ -1,21 +1,22 @@
-//! From tokens to a formula, one function a rule of the grammar.
+//! From tokens to a formula, one function a rule of the grammar: each gives what the reading of
+//! that rule in specs/FormulaReading.antt gives. `depth` bounds how deep constructs open, so that
+//! every call ends: the number of tokens is enough.
 
-#[cfg(test)]
-mod tests;
-
-ghost use Rattle.std.specs.Prelude.{◌≡◌, ◌≤◌, ◌<◌, ◌-◌, ℕ, length, map, IfOk, OnOk, IsErrOf, MatchResult, MatchOption};
+ghost use Rattle.std.specs.Prelude.{◌≡◌, ◌≤◌, ◌<◌, ◌-◌, ℕ, length, map, option_map, IfOk, OnOk, IsErrOf, MatchResult, MatchOption};
+ghost use Rattle.temporal_logic.specs.Trees.{relation_of};
 ghost use Rattle.model_text.specs.RawTrees.{RawTree};
-ghost use Rattle.model_text.specs.RawSeen.{raw_tree, written};
+ghost use Rattle.model_text.specs.RawView.{raw_tree, written};
 ghost use Rattle.model_text.specs.FormulaGrammar.{whole_level, SpellsFormula};
 ghost use Rattle.model_text.specs.Reading.{Gives, left};
-ghost use Rattle.model_text.specs.FormulaReading.{values_at, choice_at, atom_at, primary_with, opening_at, opened, joining_at, joined, tempo_with, and_with, or_with, implies_from, prefix_at, iff_at, whole_at};
+ghost use Rattle.model_text.specs.FormulaReading.{values_at, choice_at, bare_with, compares_with, among_with, atom_at, primary_with, head_at, simple_with, quantified_with, closed, opening_at, opened, joining_at, joined, connected, tempo_with, and_with, or_with, implies_from, prefix_at, iff_at, whole_at};
 ghost use Rattle.model_text.specs.declared.cursor.Fault.TheVariants.{Memory as MemoryFault};
 
 use crate::cursor::{Cursor, Fault};
 use crate::raw_formula::{RawFormula, RawValue};
-use crate::token::Mark;
-use state_space::Keyword;
+use crate::token::{Further, Sign};
+use state_space::{Keyword, Name};
 use std::alloc::Global;
+use temporal_logic::Cmp;
 
 /// An operator of one operand, with its bound.
 #[derive(Clone, Copy)]
@@ -24,6 +25,16 @@ enum Opening {
     Next,
     Eventually(Option<u8>),
     Always(Option<u8>),
+}
+
+/// An operator of two operands that has no bound.
+#[derive(Clone, Copy)]
+enum Connective {
+    And,
+    Or,
+    Implies,
+    Iff,
+    Entails,
 }
 
 /// An operator of two operands over time, with its bound.
@@ -43,7 +54,7 @@ fn values(alloc: Global, cursor: &mut Cursor<'_, '_>) -> Result<Vec<RawValue>, F
     let first = cursor.value(alloc)?;
     let mut values = Vec::new(alloc);
     values.push(first)?;
-    'values: while cursor.take_mark(Mark::Comma) {
+    'values: while cursor.take_mark(Sign::Comma) {
         let next = cursor.value(alloc)?;
         values.push(next)?;
     }
@@ -56,28 +67,59 @@ fn choice(alloc: Global, cursor: &mut Cursor<'_, '_>) -> Result<Vec<RawValue>, F
     ensures exact { Gives (λ vs. map written vs.items) result (left cursor.new) (choice_at (left cursor.old)) }
     ensures shorter { OnOk result (length (left cursor.new) < length (left cursor.old)) }
 {
-    cursor.mark(Mark::OpenBrace)?;
+    cursor.mark(Sign::OpenBrace)?;
     let values = values(alloc, cursor)?;
-    cursor.mark(Mark::CloseBrace)?;
+    cursor.mark(Sign::CloseBrace)?;
     Ok(values)
 }
 
-// name [ cmp value | "in" choice ]
+// A name, or an attribute and a name, alone.
+fn bare(name: Name, argument: Option<Name>) -> RawFormula
+    ensures { raw_tree result ≡ bare_with name (option_map (λ n. n) argument) }
+{
+    match argument {
+        None => RawFormula::Bare(name),
+        Some(argument) => RawFormula::BareOf(name, argument),
+    }
+}
+
+// The same, compared.
+fn compare(name: Name, argument: Option<Name>, comparison: Cmp, right: RawValue) -> RawFormula
+    ensures { raw_tree result ≡ compares_with name (option_map (λ n. n) argument) (relation_of comparison) (written right) }
+{
+    match argument {
+        None => RawFormula::Compare(name, comparison, right),
+        Some(argument) => RawFormula::CompareOf(name, argument, comparison, right),
+    }
+}
+
+// The same, and the values of which it is to have one.
+fn among(name: Name, argument: Option<Name>, values: Vec<RawValue>) -> RawFormula
+    ensures { raw_tree result ≡ among_with name (option_map (λ n. n) argument) (map written values.items) }
+{
+    match argument {
+        None => RawFormula::Among(name, values),
+        Some(argument) => RawFormula::AmongOf(name, argument, values),
+    }
+}
+
+// name [ "(" name ")" ] [ cmp right | "in" choice ]
 #[tactic(auto, unfolding(crate::specs::FormulaReading::atom_at))]
 fn atom(alloc: Global, cursor: &mut Cursor<'_, '_>) -> Result<RawFormula, Fault>
     ensures exact { Gives raw_tree result (left cursor.new) (atom_at (left cursor.old)) }
     ensures shorter { OnOk result (length (left cursor.new) < length (left cursor.old)) }
 {
     let name = cursor.name(alloc)?;
+    let argument = cursor.argument(alloc)?;
     if let Some(comparison) = cursor.comparison() {
-        let value = cursor.value(alloc)?;
-        return Ok(RawFormula::Compare(name, comparison, value));
+        let right = cursor.right(alloc)?;
+        return Ok(compare(name, argument, comparison, right));
     }
     if cursor.take_keyword(Keyword::In) {
         let values = choice(alloc, cursor)?;
-        return Ok(RawFormula::Among(name, values));
+        return Ok(among(name, argument, values));
     }
-    Ok(RawFormula::Bare(name))
+    Ok(bare(name, argument))
 }
 
 // The operator of one operand that stands here, if one does.
@@ -160,6 +202,26 @@ fn join(
     })
 }
 
+// The formula that a connective makes of its two operands.
+fn connect(
+    alloc: Global,
+    connective: Connective,
+    left: RawFormula,
+    right: RawFormula,
+) -> Result<RawFormula, Fault>
+    ensures { MatchResult result (λ f. raw_tree f ≡ connected connective (raw_tree left) (raw_tree right)) (λ e. e ≡ MemoryFault) }
+{
+    let left = Box::new(alloc, left)?;
+    let right = Box::new(alloc, right)?;
+    Ok(match connective {
+        Connective::And => RawFormula::And(left, right),
+        Connective::Or => RawFormula::Or(left, right),
+        Connective::Implies => RawFormula::Implies(left, right),
+        Connective::Iff => RawFormula::Iff(left, right),
+        Connective::Entails => RawFormula::Entails(left, right),
+    })
+}
+
 // "true" | "false" | "(" formula ")" | atom
 #[tactic(auto, unfolding(crate::specs::FormulaReading::primary_with))]
 #[cycle(formula)]
@@ -174,15 +236,62 @@ fn primary(alloc: Global, cursor: &mut Cursor<'_, '_>, depth: usize) -> Result<R
     if cursor.take_keyword(Keyword::False) {
         return Ok(RawFormula::False);
     }
-    if cursor.take_mark(Mark::OpenParenthesis) {
+    if cursor.take_mark(Sign::OpenParenthesis) {
         let inner = formula(alloc, cursor, depth - 1)?;
-        cursor.mark(Mark::CloseParenthesis)?;
+        cursor.mark(Sign::CloseParenthesis)?;
         return Ok(inner);
     }
     atom(alloc, cursor)
 }
 
-// operator prefix | primary
+// name ":" name "("
+#[tactic(auto, unfolding(crate::specs::FormulaReading::head_at))]
+fn head(alloc: Global, cursor: &mut Cursor<'_, '_>) -> Result<(Name, Name), Fault>
+    ensures exact { Gives (λ p. (p.0, p.1)) result (left cursor.new) (head_at (left cursor.old)) }
+    ensures shorter { OnOk result (length (left cursor.new) < length (left cursor.old)) }
+{
+    let name = cursor.name(alloc)?;
+    cursor.mark(Sign::Colon)?;
+    let entity = cursor.name(alloc)?;
+    cursor.further(Further::OpenArgument)?;
+    Ok((name, entity))
+}
+
+// formula ")"
+#[tactic(auto)]
+#[cycle(formula)]
+fn enclosed(alloc: Global, cursor: &mut Cursor<'_, '_>, depth: usize) -> Result<RawFormula, Fault>
+    requires { length (left cursor.old) ≤ depth }
+    ensures exact { Gives raw_tree result (left cursor.new) (closed (whole_at depth (left cursor.old))) }
+    ensures shorter { OnOk result (length (left cursor.new) < length (left cursor.old)) }
+{
+    let inner = formula(alloc, cursor, depth)?;
+    cursor.mark(Sign::CloseParenthesis)?;
+    Ok(inner)
+}
+
+// ( "all" | "some" ) head formula ")" | primary
+#[tactic(auto, unfolding(crate::specs::FormulaReading::simple_with, crate::specs::FormulaReading::quantified_with))]
+#[cycle(formula)]
+fn simple(alloc: Global, cursor: &mut Cursor<'_, '_>, depth: usize) -> Result<RawFormula, Fault>
+    requires { length (left cursor.old) ≤ depth }
+    ensures exact { Gives raw_tree result (left cursor.new) (simple_with (whole_at (depth - 1)) (left cursor.old)) }
+    ensures shorter { OnOk result (length (left cursor.new) < length (left cursor.old)) }
+{
+    if cursor.take_further(Further::All) {
+        let (name, entity) = head(alloc, cursor)?;
+        let body = enclosed(alloc, cursor, depth - 1)?;
+        return Ok(RawFormula::All(name, entity, Box::new(alloc, body)?));
+    }
+    if cursor.take_further(Further::Some) {
+        let (name, entity) = head(alloc, cursor)?;
+        let body = enclosed(alloc, cursor, depth - 1)?;
+        return Ok(RawFormula::Exists(name, entity, Box::new(alloc, body)?));
+    }
+    primary(alloc, cursor, depth)
+}
+
+// operator prefix | simple
 #[tactic(auto, using(crate::proofs::FormulaTurns::prefix_step), unfolding(crate::specs::FormulaReading::prefix_with))]
 #[cycle(formula)]
 fn prefix(alloc: Global, cursor: &mut Cursor<'_, '_>, depth: usize) -> Result<RawFormula, Fault>
@@ -191,7 +300,7 @@ fn prefix(alloc: Global, cursor: &mut Cursor<'_, '_>, depth: usize) -> Result<Ra
     ensures shorter { OnOk result (length (left cursor.new) < length (left cursor.old)) }
 {
     let Some(opening) = take_opening(cursor)? else {
-        return primary(alloc, cursor, depth);
+        return simple(alloc, cursor, depth);
     };
     let operand = prefix(alloc, cursor, depth - 1)?;
     open(alloc, opening, operand)
@@ -224,7 +333,7 @@ fn and(alloc: Global, cursor: &mut Cursor<'_, '_>, depth: usize) -> Result<RawFo
     let mut formula = tempo(alloc, cursor, depth)?;
     'operands: while cursor.take_keyword(Keyword::And) {
         let right = tempo(alloc, cursor, depth)?;
-        formula = RawFormula::And(Box::new(alloc, formula)?, Box::new(alloc, right)?);
+        formula = connect(alloc, Connective::And, formula, right)?;
     }
     Ok(formula)
 }
@@ -240,7 +349,7 @@ fn or(alloc: Global, cursor: &mut Cursor<'_, '_>, depth: usize) -> Result<RawFor
     let mut formula = and(alloc, cursor, depth)?;
     'operands: while cursor.take_keyword(Keyword::Or) {
         let right = and(alloc, cursor, depth)?;
-        formula = RawFormula::Or(Box::new(alloc, formula)?, Box::new(alloc, right)?);
+        formula = connect(alloc, Connective::Or, formula, right)?;
     }
     Ok(formula)
 }
@@ -258,7 +367,7 @@ fn implies(alloc: Global, cursor: &mut Cursor<'_, '_>, depth: usize) -> Result<R
         return Ok(premise);
     }
     let conclusion = implies(alloc, cursor, depth)?;
-    Ok(RawFormula::Implies(Box::new(alloc, premise)?, Box::new(alloc, conclusion)?))
+    connect(alloc, Connective::Implies, premise, conclusion)
 }
 
 /// The formula at the front, without an `entails`.
@@ -278,7 +387,7 @@ pub(crate) fn iff_formula(
         return Ok(first);
     }
     let second = implies(alloc, cursor, depth)?;
-    Ok(RawFormula::Iff(Box::new(alloc, first)?, Box::new(alloc, second)?))
+    connect(alloc, Connective::Iff, first, second)
 }
 
 /// The formula at the front. `depth` bounds how deep its constructs open.
@@ -298,5 +407,5 @@ pub(crate) fn formula(
         return Ok(first);
     }
     let second = iff_formula(alloc, cursor, depth)?;
-    Ok(RawFormula::Entails(Box::new(alloc, first)?, Box::new(alloc, second)?))
+    connect(alloc, Connective::Entails, first, second)
 }

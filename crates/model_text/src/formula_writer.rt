@@ -2,17 +2,19 @@
 
 ghost use Rattle.std.specs.Prelude.{◌≡◌, ◌∷◌, ◌++◌, [], map, OnOk};
 ghost use Rattle.temporal_logic.specs.Trees.{relation_of};
-ghost use Rattle.model_text.specs.Tokens.{keyword};
-ghost use Rattle.model_text.specs.RawTrees.{compares, among};
-ghost use Rattle.model_text.specs.RawSeen.{written, raw_tree};
+ghost use Rattle.model_text.specs.Tokens.{keyword, mark, name as name_form, further};
+ghost use Rattle.model_text.specs.declared.token.Sign.TheVariants.{Colon};
+ghost use Rattle.model_text.specs.declared.token.Further.TheVariants.{OpenArgument};
+ghost use Rattle.model_text.specs.RawTrees.{compares, among, compares_of, among_of};
+ghost use Rattle.model_text.specs.RawView.{written, raw_tree};
 ghost use Rattle.model_text.specs.FormulaGrammar.{prefix_level, primary_level, whole_level};
-ghost use Rattle.model_text.specs.Writing.{sign_of, value_token, values_tokens, formula_tokens};
+ghost use Rattle.model_text.specs.Writing.{sign_of, value_token, argument_tokens, right_tokens, values_tokens, quantified_tokens, formula_tokens};
 ghost use Rattle.model_text.specs.Lines.{with_token, with_tokens, behind_commas, bound_tokens, level_of, own_level};
 
 use crate::level::Level;
 use crate::line::Line;
 use crate::raw_formula::{RawFormula, RawValue};
-use crate::token::Mark;
+use crate::token::{Further, Sign};
 use source_sink::Memory;
 use state_space::{Keyword, Name};
 use temporal_logic::Cmp;
@@ -23,23 +25,46 @@ pub(crate) fn value(line: &mut Line, value: &RawValue) -> Result<(), Memory>
 {
     match value {
         RawValue::Word(word) => line.name(word),
+        RawValue::Of(attribute, _) => line.name(attribute),
         RawValue::Number(number) => line.number(*number),
         RawValue::True => line.keyword(Keyword::True),
         RawValue::False => line.keyword(Keyword::False),
     }
 }
 
+/// A name in brackets.
+fn argument(line: &mut Line, name: &Name) -> Result<(), Memory>
+    ensures { OnOk result (line.new ≡ with_tokens line.old (argument_tokens name.now)) }
+{
+    line.further(Further::OpenArgument)?;
+    line.name(name)?;
+    line.mark(Sign::CloseParenthesis)
+}
+
+/// What stands behind a comparison.
+fn right(line: &mut Line, other: &RawValue) -> Result<(), Memory>
+    ensures { OnOk result (line.new ≡ with_tokens line.old (right_tokens (written other.now))) }
+{
+    match other {
+        RawValue::Of(attribute, name) => {
+            line.name(attribute)?;
+            argument(line, name)
+        }
+        _ => value(line, other),
+    }
+}
+
 /// The sign of a comparison.
-fn sign_of(comparison: Cmp) -> Mark
+fn sign_of(comparison: Cmp) -> Sign
     ensures { result ≡ sign_of (relation_of comparison) }
 {
     match comparison {
-        Cmp::Eq => Mark::Equal,
-        Cmp::Ne => Mark::NotEqual,
-        Cmp::Lt => Mark::Below,
-        Cmp::Le => Mark::AtMost,
-        Cmp::Gt => Mark::Above,
-        Cmp::Ge => Mark::AtLeast,
+        Cmp::Eq => Sign::Equal,
+        Cmp::Ne => Sign::NotEqual,
+        Cmp::Lt => Sign::Below,
+        Cmp::Le => Sign::AtMost,
+        Cmp::Gt => Sign::Above,
+        Cmp::Ge => Sign::AtLeast,
     }
 }
 
@@ -50,7 +75,24 @@ fn comparison(line: &mut Line, name: &Name, comparison: Cmp, other: &RawValue) -
 {
     line.name(name)?;
     line.mark(sign_of(comparison))?;
-    value(line, other)
+    right(line, other)
+}
+
+/// An attribute and a name, compared.
+#[tactic(auto, using(crate::proofs::LineLaws::with_both), unfolding(crate::specs::Writing::formula_tokens))]
+fn comparison_of(
+    line: &mut Line,
+    attribute: &Name,
+    name: &Name,
+    comparison: Cmp,
+    other: &RawValue,
+) -> Result<(), Memory>
+    ensures { OnOk result (line.new ≡ with_tokens line.old (formula_tokens primary_level (compares_of attribute.now name.now (relation_of comparison) (written other.now)))) }
+{
+    line.name(attribute)?;
+    argument(line, name)?;
+    line.mark(sign_of(comparison))?;
+    right(line, other)
 }
 
 /// Values, each behind a comma.
@@ -58,7 +100,7 @@ fn more_values(line: &mut Line, values: &[RawValue]) -> Result<(), Memory>
     ensures { OnOk result (line.new ≡ with_tokens line.old (behind_commas (λ v. value_token (written v) ∷ []) values.now)) }
 {
     'values: for item in values {
-        line.mark(Mark::Comma)?;
+        line.mark(Sign::Comma)?;
         value(line, item)?;
     }
     Ok(())
@@ -84,9 +126,27 @@ fn choice(line: &mut Line, name: &Name, choices: &[RawValue]) -> Result<(), Memo
 {
     line.name(name)?;
     line.keyword(Keyword::In)?;
-    line.mark(Mark::OpenBrace)?;
+    line.mark(Sign::OpenBrace)?;
     values(line, choices)?;
-    line.mark(Mark::CloseBrace)
+    line.mark(Sign::CloseBrace)
+}
+
+/// An attribute and a name, and the values of which it is to have one.
+#[tactic(auto, using(crate::proofs::LineLaws::with_both), unfolding(crate::specs::Writing::formula_tokens))]
+fn choice_of(
+    line: &mut Line,
+    attribute: &Name,
+    name: &Name,
+    choices: &[RawValue],
+) -> Result<(), Memory>
+    ensures { OnOk result (line.new ≡ with_tokens line.old (formula_tokens primary_level (among_of attribute.now name.now (map written choices.now)))) }
+{
+    line.name(attribute)?;
+    argument(line, name)?;
+    line.keyword(Keyword::In)?;
+    line.mark(Sign::OpenBrace)?;
+    values(line, choices)?;
+    line.mark(Sign::CloseBrace)
 }
 
 /// A bound in steps, where there is one.
@@ -136,6 +196,34 @@ fn tempo(
     formula(line, Level::Prefix, right)
 }
 
+/// A quantifier, its bound name and its type, up to the parenthesis.
+fn quantifier(line: &mut Line, word: Further, name: &Name, entity: &Name) -> Result<(), Memory>
+    ensures { OnOk result (line.new ≡ with_tokens line.old (further word ∷ name_form name.now ∷ mark Colon ∷ name_form entity.now ∷ further OpenArgument ∷ [])) }
+{
+    line.further(word)?;
+    line.name(name)?;
+    line.mark(Sign::Colon)?;
+    line.name(entity)?;
+    line.further(Further::OpenArgument)
+}
+
+/// A formula behind a quantifier.
+#[cycle(formula)]
+#[tactic(auto, using(crate::proofs::LineLaws::with_both))]
+fn quantified(
+    line: &mut Line,
+    word: Further,
+    name: &Name,
+    entity: &Name,
+    body: &RawFormula,
+) -> Result<(), Memory>
+    ensures { OnOk result (line.new ≡ with_tokens line.old (quantified_tokens word name.now entity.now (formula_tokens whole_level (raw_tree body.now)))) }
+{
+    quantifier(line, word, name, entity)?;
+    formula(line, Level::Whole, body)?;
+    line.mark(Sign::CloseParenthesis)
+}
+
 /// A logical operator between its operands, each at a place that asks for a level.
 #[cycle(formula)]
 #[tactic(auto, using(crate::proofs::LineLaws::with_both))]
@@ -166,6 +254,14 @@ fn open_formula(line: &mut Line, formula: &RawFormula) -> Result<(), Memory>
         RawFormula::Bare(x) => line.name(x),
         RawFormula::Compare(x, c, v) => comparison(line, x, *c, v),
         RawFormula::Among(x, vs) => choice(line, x, vs),
+        RawFormula::BareOf(f, x) => {
+            line.name(f)?;
+            argument(line, x)
+        }
+        RawFormula::CompareOf(f, x, c, v) => comparison_of(line, f, x, *c, v),
+        RawFormula::AmongOf(f, x, vs) => choice_of(line, f, x, vs),
+        RawFormula::All(x, entity, a) => quantified(line, Further::All, x, entity, a),
+        RawFormula::Exists(x, entity, a) => quantified(line, Further::Some, x, entity, a),
         RawFormula::Not(a) => prefixed(line, Keyword::Not, None, a),
         RawFormula::Next(a) => prefixed(line, Keyword::Next, None, a),
         RawFormula::Eventually(a) => prefixed(line, Keyword::Eventually, None, a),
@@ -197,7 +293,7 @@ pub(crate) fn formula(line: &mut Line, asked: Level, formula: &RawFormula) -> Re
     if asked.tightness() <= Level::of(formula).tightness() {
         return open_formula(line, formula);
     }
-    line.mark(Mark::OpenParenthesis)?;
+    line.mark(Sign::OpenParenthesis)?;
     open_formula(line, formula)?;
-    line.mark(Mark::CloseParenthesis)
+    line.mark(Sign::CloseParenthesis)
 }

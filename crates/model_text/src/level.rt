@@ -1,8 +1,11 @@
-//! The levels of the grammar of formulas: how tightly what stands at a place has to bind.
+//! The levels of the grammar of formulas, for the writer: how tightly what stands at a place has to
+//! bind, and how tightly a formula does. The plain form is `own_level` of specs/Lines.antt and
+//! `tightness` of specs/Writing.antt; two small numbers are compared in place of two rules. Nothing
+//! was measured of it alone.
 
 ghost use Rattle.std.specs.Prelude.{◌≡◌};
 ghost use Rattle.model_text.specs.Writing.{tightness};
-ghost use Rattle.model_text.specs.RawSeen.{raw_tree};
+ghost use Rattle.model_text.specs.RawView.{raw_tree};
 ghost use Rattle.model_text.specs.Lines.{level_of, own_level};
 
 use crate::raw_formula::RawFormula;
@@ -46,13 +49,18 @@ impl Level {
             | RawFormula::False
             | RawFormula::Bare(_)
             | RawFormula::Compare(_, _, _)
-            | RawFormula::Among(_, _) => Level::Primary,
+            | RawFormula::Among(_, _)
+            | RawFormula::BareOf(_, _)
+            | RawFormula::CompareOf(_, _, _, _)
+            | RawFormula::AmongOf(_, _, _) => Level::Primary,
             RawFormula::Not(_)
             | RawFormula::Next(_)
             | RawFormula::Eventually(_)
             | RawFormula::Always(_)
             | RawFormula::EventuallyWithin(_, _)
-            | RawFormula::AlwaysWithin(_, _) => Level::Prefix,
+            | RawFormula::AlwaysWithin(_, _)
+            | RawFormula::All(_, _, _)
+            | RawFormula::Exists(_, _, _) => Level::Prefix,
             RawFormula::Until(_, _)
             | RawFormula::Unless(_, _)
             | RawFormula::Release(_, _)

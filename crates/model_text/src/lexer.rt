@@ -6,9 +6,9 @@ ghost use Rattle.std.specs.List.{list_all};
 ghost use Rattle.state_space.specs.Names.{is_word_byte};
 ghost use Rattle.model_text.specs.Tokens.{form_of, all_placed, Placed};
 ghost use Rattle.model_text.specs.Lexing.{word_token as word_token_of, negative_word, lone_form, pair_of, single_of, alone_form, alone as alone_tokens, fresh, next, emitted, ended, behind as behind_sign, tokens_of};
-ghost use Rattle.model_text.specs.Seen.{seen, IsWithin, fresh_code};
+ghost use Rattle.model_text.specs.LexerView.{seen, IsWithin, fresh_code};
 
-use crate::token::{Kind, Mark, Token, Word};
+use crate::token::{Sign, Token, TokenKind, Word};
 use state_space::{has_name_form, is_word_byte, keyword_of};
 use std::alloc::{AllocError, Global};
 
@@ -33,76 +33,76 @@ fn are_digits(word: &[u8]) -> bool
 
 // The token that a word is.
 #[tactic(auto, unfolding(crate::specs::Lexing::word_token))]
-fn word_kind(word: &[u8]) -> Kind<'_>
+fn word_kind(word: &[u8]) -> TokenKind<'_>
     ensures { form_of result ≡ word_token_of word.now }
 {
     if let Some(keyword) = keyword_of(word) {
-        return Kind::Keyword(keyword);
+        return TokenKind::Keyword(keyword);
     }
     if has_name_form(word) {
-        return Kind::Name(Word { bytes: word });
+        return TokenKind::Name(Word { bytes: word });
     }
     if are_digits(word) {
-        return Kind::Number {
+        return TokenKind::Number {
             negative: false,
             digits: word,
         };
     }
-    Kind::Stray
+    TokenKind::Stray
 }
 
 // The token that a sign of which a second byte may come is without one.
-fn lone_kind<'t>(byte: u8) -> Kind<'t>
+fn lone_kind<'t>(byte: u8) -> TokenKind<'t>
     ensures { form_of result ≡ lone_form byte }
 {
     match byte {
-        b'<' => Kind::Mark(Mark::Below),
-        b'>' => Kind::Mark(Mark::Above),
-        _ => Kind::Stray,
+        b'<' => TokenKind::Sign(Sign::Below),
+        b'>' => TokenKind::Sign(Sign::Above),
+        _ => TokenKind::Stray,
     }
 }
 
-fn pair_mark(first: u8, second: u8) -> Option<Mark>
+fn pair_mark(first: u8, second: u8) -> Option<Sign>
     ensures { result ≡ pair_of first second }
 {
     match (first, second) {
-        (b'!', b'=') => Some(Mark::NotEqual),
-        (b'<', b'=') => Some(Mark::AtMost),
-        (b'>', b'=') => Some(Mark::AtLeast),
-        (b'.', b'.') => Some(Mark::Dots),
+        (b'!', b'=') => Some(Sign::NotEqual),
+        (b'<', b'=') => Some(Sign::AtMost),
+        (b'>', b'=') => Some(Sign::AtLeast),
+        (b'.', b'.') => Some(Sign::Dots),
         _ => None,
     }
 }
 
-fn single_mark(byte: u8) -> Option<Mark>
+fn single_mark(byte: u8) -> Option<Sign>
     ensures { result ≡ single_of byte }
 {
     match byte {
-        b';' => Some(Mark::Semicolon),
-        b':' => Some(Mark::Colon),
-        b',' => Some(Mark::Comma),
-        b'(' => Some(Mark::OpenParenthesis),
-        b')' => Some(Mark::CloseParenthesis),
-        b'{' => Some(Mark::OpenBrace),
-        b'}' => Some(Mark::CloseBrace),
-        b'=' => Some(Mark::Equal),
+        b';' => Some(Sign::Semicolon),
+        b':' => Some(Sign::Colon),
+        b',' => Some(Sign::Comma),
+        b'(' => Some(Sign::OpenParenthesis),
+        b')' => Some(Sign::CloseParenthesis),
+        b'{' => Some(Sign::OpenBrace),
+        b'}' => Some(Sign::CloseBrace),
+        b'=' => Some(Sign::Equal),
         _ => None,
     }
 }
 
 // The token that a byte is by itself.
-fn alone_kind<'t>(byte: u8) -> Option<Kind<'t>>
+fn alone_kind<'t>(byte: u8) -> Option<TokenKind<'t>>
     ensures { map form_of (option_to_list result) ≡ alone_form (single_of byte) byte }
 {
     if let Some(mark) = single_mark(byte) {
-        return Some(Kind::Mark(mark));
+        return Some(TokenKind::Sign(mark));
     }
     if is_word_byte(byte) {
         return None;
     }
     match byte {
         b' ' | b'\t' | b'\r' | b'\n' | b'#' | b'!' | b'<' | b'>' | b'.' | b'-' => None,
-        _ => Some(Kind::BadByte),
+        _ => Some(TokenKind::BadByte),
     }
 }
 
@@ -121,7 +121,7 @@ fn fresh_state(byte: u8, at: usize) -> State
     }
 }
 
-fn put<'t>(tokens: &mut Vec<Token<'t>>, at: usize, kind: Kind<'t>) -> Result<(), AllocError>
+fn put<'t>(tokens: &mut Vec<Token<'t>>, at: usize, kind: TokenKind<'t>) -> Result<(), AllocError>
     ensures { OnOk result (all_placed tokens.new.items ≡ all_placed tokens.old.items ++ (record { at = at; form = form_of kind.entry }) ∷ []) }
 {
     tokens.push(Token { at, kind })?;
@@ -139,13 +139,13 @@ fn put_negative<'t>(
     ensures { OnOk result (all_placed tokens.new.items ≡ all_placed tokens.old.items ++ negative_word from word.now) }
 {
     if are_digits(word) {
-        let kind = Kind::Number {
+        let kind = TokenKind::Number {
             negative: true,
             digits: word,
         };
         return put(tokens, from, kind);
     }
-    put(tokens, from, Kind::Stray)?;
+    put(tokens, from, TokenKind::Stray)?;
     put(tokens, from + 1, word_kind(word))
 }
 
@@ -192,7 +192,7 @@ fn behind(
     ensures within { IfOk result (λ s. IsWithin s (at + 1)) }
 {
     if let Some(mark) = pair_mark(text[from], text[at]) {
-        put(tokens, from, Kind::Mark(mark))?;
+        put(tokens, from, TokenKind::Sign(mark))?;
         return Ok(State::Between);
     }
     if is_negative(text[from], text[at]) {

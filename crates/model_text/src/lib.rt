@@ -1,4 +1,7 @@
-//! The model language: from bytes to statements, and back.
+//! The model language, for whoever has bytes or statements: `read_model` gives the statements that
+//! bytes spell, or the first cause for which they are refused, and `model_text` writes statements
+//! so that they are read again. Data goes from lexer over version, readers and limits to text, and
+//! back from writer over line. Names are not looked up here, and no formula is given a meaning.
 #![tactic(auto)]
 
 mod agent_reader;
@@ -22,12 +25,11 @@ mod text;
 mod token;
 mod trace_reader;
 mod trace_writer;
+mod version;
 mod writer;
 
-pub use lexer::lex;
 pub use limits::LimitKind;
 pub use raw_formula::{RawFormula, RawValue};
 pub use statement::{RawModel, RawState, Role, Statement, StatementKind};
-pub use text::{TextRefusal, law_of_refusals, law_of_spelling, read_model};
-pub use token::{Kind, Mark, Token, Word};
+pub use text::{TextRefusal, law_of_fault_places, law_of_refusals, law_of_spelling, read_model};
 pub use writer::{law_of_writing, model_text};

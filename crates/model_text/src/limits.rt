@@ -1,16 +1,19 @@
-//! The limits of a text, tested over its tokens and its statements. A limit's number stands here alone.
+//! The limits of a text, tested over its tokens and its statements. The readers do not know of
+//! them: a value that is too large counts as one just over its limit. So the numbers of three
+//! limits stand elsewhere too, for names in token.rt and state_space, for magnitudes and bounds in
+//! numeral.rt.
 
 ghost use Rattle.std.specs.Prelude.{◌≡◌, count_by, map, nat_lt};
 ghost use Rattle.std.specs.List.{list_all, list_any};
 ghost use Rattle.model_text.specs.Tokens.{keyword, form_of};
-ghost use Rattle.model_text.specs.RawSeen.{raw_tree};
+ghost use Rattle.model_text.specs.RawView.{raw_tree};
 ghost use Rattle.model_text.specs.Statements.{statement_of, statements_of, all_statements};
 ghost use Rattle.model_text.specs.Limits.{is_operator as is_operator_form, is_semicolon as is_semicolon_form, most_operators as most_operators_of, is_short as is_short_form, is_small as is_small_form, is_link as is_link_form, parts_of, has_many_parts as has_many_parts_of, has_wide_bound as has_wide_bound_of, depth_of, is_deep as is_deep_of, has_formula, passed_limit as passed_limit_of};
 
 use crate::numeral::Numeral;
 use crate::raw_formula::RawFormula;
 use crate::statement::{RawModel, Statement, StatementKind};
-use crate::token::{Kind, Mark, Token};
+use crate::token::{Further, Sign, Token, TokenKind};
 use state_space::Keyword;
 
 /// Operators and open parentheses between two semicolons.
@@ -33,7 +36,7 @@ const DEEPEST_FORMULA: usize = 100;
 /// What there is too much of in a text, in the order in which the limits are answered.
 #[derive(Clone, Copy, Debug, PartialEq, Eq)]
 pub enum LimitKind {
-    /// Over 500 operators and open parentheses between two semicolons.
+    /// Over 500 operators, quantifiers and open parentheses between two semicolons.
     Operators,
     /// Over 2,000 statements, the version among them.
     Statements,
@@ -71,20 +74,21 @@ fn is_operator_word(word: Keyword) -> bool
     )
 }
 
-fn is_operator(kind: Kind<'_>) -> bool
+fn is_operator(kind: TokenKind<'_>) -> bool
     ensures { result ≡ is_operator_form (form_of kind.entry) }
 {
     match kind {
-        Kind::Mark(Mark::OpenParenthesis) => true,
-        Kind::Keyword(word) => is_operator_word(word),
+        TokenKind::Sign(Sign::OpenParenthesis) => true,
+        TokenKind::Keyword(word) => is_operator_word(word),
+        TokenKind::Further(Further::All | Further::Some | Further::OpenArgument) => true,
         _ => false,
     }
 }
 
-fn is_semicolon(kind: Kind<'_>) -> bool
+fn is_semicolon(kind: TokenKind<'_>) -> bool
     ensures { result ≡ is_semicolon_form (form_of kind.entry) }
 {
-    matches!(kind, Kind::Mark(Mark::Semicolon))
+    matches!(kind, TokenKind::Sign(Sign::Semicolon))
 }
 
 /// The greatest number of operators and open parentheses between two semicolons.
@@ -105,11 +109,11 @@ pub(crate) fn most_operators(tokens: &[Token<'_>]) -> usize
     most.max(count)
 }
 
-fn is_short(kind: Kind<'_>) -> bool
+fn is_short(kind: TokenKind<'_>) -> bool
     ensures { result ≡ is_short_form (form_of kind.entry) }
 {
     match kind {
-        Kind::Name(word) => word.bytes.len() <= LONGEST_NAME,
+        TokenKind::Name(word) => word.bytes.len() <= LONGEST_NAME,
         _ => true,
     }
 }
@@ -126,11 +130,11 @@ pub(crate) fn are_names_short(tokens: &[Token<'_>]) -> bool
     true
 }
 
-fn is_small(kind: Kind<'_>) -> bool
+fn is_small(kind: TokenKind<'_>) -> bool
     ensures { result ≡ is_small_form (form_of kind.entry) }
 {
     match kind {
-        Kind::Number { negative, digits } => {
+        TokenKind::Number { negative, digits } => {
             Numeral { negative, digits }.magnitude() <= GREATEST_NUMBER
         }
         _ => true,
@@ -205,7 +209,9 @@ fn has_wide_bound(formula: &RawFormula) -> bool
         RawFormula::Not(a)
         | RawFormula::Next(a)
         | RawFormula::Eventually(a)
-        | RawFormula::Always(a) => has_wide_bound(a),
+        | RawFormula::Always(a)
+        | RawFormula::All(_, _, a)
+        | RawFormula::Exists(_, _, a) => has_wide_bound(a),
         RawFormula::EventuallyWithin(bound, a) | RawFormula::AlwaysWithin(bound, a) => {
             *bound > WIDEST_BOUND || has_wide_bound(a)
         }
@@ -239,7 +245,9 @@ fn is_deeper(formula: &RawFormula, levels: usize) -> bool
         | RawFormula::Eventually(a)
         | RawFormula::Always(a)
         | RawFormula::EventuallyWithin(_, a)
-        | RawFormula::AlwaysWithin(_, a) => is_deeper(a, levels - 1),
+        | RawFormula::AlwaysWithin(_, a)
+        | RawFormula::All(_, _, a)
+        | RawFormula::Exists(_, _, a) => is_deeper(a, levels - 1),
         RawFormula::And(a, b)
         | RawFormula::Or(a, b)
         | RawFormula::Implies(a, b)

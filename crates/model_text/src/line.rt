@@ -1,12 +1,14 @@
-//! A line of the written form, to which tokens are added with the spaces between them.
+//! A line of the written form, to which tokens are added with the spaces between them: whether one
+//! comes before a token is decided here alone, from the token and the one before it
+//! (specs/Layout.antt).
 
 ghost use Rattle.std.specs.Prelude.{◌≡◌, true, [], pos, OnOk};
-ghost use Rattle.model_text.specs.Tokens.{keyword, mark, name as name_form};
+ghost use Rattle.model_text.specs.Tokens.{keyword, mark, name as name_form, further};
 ghost use Rattle.model_text.specs.Writing.{number_token};
 ghost use Rattle.model_text.specs.Lines.{LineForm, with_bytes, with_token};
 
-use crate::sign::{closes_up, holds_on, sign_bytes};
-use crate::token::Mark;
+use crate::sign::{closes_up, further_bytes, further_holds_on, holds_on, sign_bytes};
+use crate::token::{Further, Sign};
 use itoa::Buffer;
 use source_sink::Memory;
 use state_space::{Keyword, Name};
@@ -61,10 +63,18 @@ impl Line {
 
     /// A sign behind what is written.
     #[tactic(auto, unfolding(crate::specs::Lines::with_token))]
-    pub(crate) fn mark(&mut self, sign: Mark) -> Result<(), Memory>
+    pub(crate) fn mark(&mut self, sign: Sign) -> Result<(), Memory>
         ensures { OnOk result (self.new ≡ with_token self.old (mark sign)) }
     {
         self.token(sign_bytes(sign), closes_up(sign), holds_on(sign))
+    }
+
+    /// A token that only version 2 has, behind what is written.
+    #[tactic(auto, unfolding(crate::specs::Lines::with_token))]
+    pub(crate) fn further(&mut self, sign: Further) -> Result<(), Memory>
+        ensures { OnOk result (self.new ≡ with_token self.old (further sign)) }
+    {
+        self.token(further_bytes(sign), false, further_holds_on(sign))
     }
 
     /// A name behind what is written.

@@ -1,4 +1,5 @@
-//! The statements that link goals to what refines, obstructs or contradicts them.
+//! Readers of the statements that link goals to what refines, obstructs or contradicts them: each
+//! begins behind the keyword, and gives what the form in specs/StatementReading.antt gives.
 
 ghost use Rattle.std.specs.Prelude.{◌<◌, ◌≤◌, length, OnOk};
 ghost use Rattle.model_text.specs.Statements.{statement_of};
@@ -6,7 +7,7 @@ ghost use Rattle.model_text.specs.Reading.{Gives, left};
 ghost use Rattle.model_text.specs.StatementReading.{pattern_at, refinement_at, obstruction_at, several_at, conflict_at};
 
 use crate::cursor::{Cursor, Fault};
-use crate::part_reader::{body_behind, group, label, names};
+use crate::part_reader::{body_behind, declared_name, group, names};
 use crate::statement::StatementKind;
 use state_space::{Keyword, Name};
 use std::alloc::Global;
@@ -67,7 +68,7 @@ pub(crate) fn conflict(alloc: Global, cursor: &mut Cursor<'_, '_>) -> Result<Sta
     ensures exact { Gives statement_of result (left cursor.new) (conflict_at (left cursor.old)) }
     ensures shorter { OnOk result (length (left cursor.new) < length (left cursor.old)) }
 {
-    let name = label(alloc, cursor)?;
+    let name = declared_name(alloc, cursor)?;
     let goals = several(alloc, cursor)?;
     let boundary = body_behind(alloc, cursor, Keyword::Boundary)?;
     Ok(StatementKind::Conflict(name, goals, boundary))

@@ -1,8 +1,10 @@
 //! Numbers as they are written, and their values. A value that a limit refuses counts as one that is just over it.
 
 ghost use Rattle.std.specs.Prelude.{◌≡◌, ◌≤◌, min};
-ghost use Rattle.model_text.specs.Leaves.{value_behind, magnitude, number_value, bound_value};
-ghost use Rattle.model_text.specs.StatementReading.{is_one};
+ghost use Rattle.model_text.specs.Leaves.{magnitude, number_value, bound_value};
+ghost use Rattle.model_text.specs.Versions.{version_named, is_second_number};
+
+use source_sink::value_up_to;
 
 /// A number as it is written: its sign and its decimal digits.
 #[derive(Clone, Copy)]
@@ -17,12 +19,7 @@ fn magnitude(digits: &[u8]) -> u64
     ensures exact { result ≡ magnitude digits.now }
     ensures bounded { result ≤ 1000000001 }
 {
-    let mut value = 0_u64;
-    'digits: for digit in digits {
-        let digit_value = digit.saturating_sub(b'0');
-        value = (10 * value + u64::from(digit_value)).min(1_000_000_001);
-    }
-    value
+    value_up_to(digits, 1_000_000_001)
 }
 
 impl<'t> Numeral<'t> {
@@ -54,10 +51,24 @@ impl<'t> Numeral<'t> {
         value.min(101) as u8
     }
 
-    /// Whether the value is 1.
-    pub(crate) fn is_one(&self) -> bool
-        ensures { result ≡ is_one self.now.negative self.now.digits.now }
+    /// The version of the language that the value is, if it is one.
+    pub(crate) fn version(&self) -> Option<u8>
+        ensures { result ≡ version_named self.now.negative self.now.digits.now }
     {
-        !self.negative && magnitude(self.digits) == 1
+        if self.negative {
+            return None;
+        }
+        match magnitude(self.digits) {
+            1 => Some(1),
+            2 => Some(2),
+            _ => None,
+        }
+    }
+
+    /// Whether the value is 2.
+    pub(crate) fn is_two(&self) -> bool
+        ensures { result ≡ is_second_number self.now.negative self.now.digits.now }
+    {
+        !self.negative && magnitude(self.digits) == 2
     }
 }

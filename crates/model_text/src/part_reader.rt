@@ -1,14 +1,15 @@
-//! Parts that several forms of statement share.
+//! Readers of parts that several forms of statement share: names, a name before a colon, names
+//! behind a keyword, formulas. A part that one form alone has is read beside that form.
 
 ghost use Rattle.std.specs.Prelude.{◌<◌, ◌≤◌, length, OnOk};
-ghost use Rattle.model_text.specs.RawSeen.{raw_tree};
+ghost use Rattle.model_text.specs.RawView.{raw_tree};
 ghost use Rattle.model_text.specs.Reading.{Gives, left};
-ghost use Rattle.model_text.specs.StatementReading.{names_at, label_at, pair_at, group_at, part_at, body_at, side_at, body_behind};
+ghost use Rattle.model_text.specs.StatementReading.{names_at, declared_name_at, pair_at, group_at, part_at, body_at, side_at, body_behind};
 
 use crate::cursor::{Cursor, Fault};
 use crate::formula_reader::{formula, iff_formula};
 use crate::raw_formula::RawFormula;
-use crate::token::Mark;
+use crate::token::Sign;
 use state_space::{Keyword, Name};
 use std::alloc::Global;
 
@@ -20,20 +21,20 @@ pub(crate) fn names(alloc: Global, cursor: &mut Cursor<'_, '_>) -> Result<Vec<Na
 {
     let mut names = Vec::new(alloc);
     names.push(cursor.name(alloc)?)?;
-    'names: while cursor.take_mark(Mark::Comma) {
+    'names: while cursor.take_mark(Sign::Comma) {
         names.push(cursor.name(alloc)?)?;
     }
     Ok(names)
 }
 
 /// A name and a colon.
-#[tactic(auto, unfolding(crate::specs::StatementReading::label_at, crate::specs::Readers::after, crate::specs::Readers::counted))]
-pub(crate) fn label(alloc: Global, cursor: &mut Cursor<'_, '_>) -> Result<Name, Fault>
-    ensures exact { Gives (λ n. n) result (left cursor.new) (label_at (left cursor.old)) }
+#[tactic(auto, unfolding(crate::specs::StatementReading::declared_name_at, crate::specs::Readers::after, crate::specs::Readers::counted))]
+pub(crate) fn declared_name(alloc: Global, cursor: &mut Cursor<'_, '_>) -> Result<Name, Fault>
+    ensures exact { Gives (λ n. n) result (left cursor.new) (declared_name_at (left cursor.old)) }
     ensures shorter { OnOk result (length (left cursor.new) < length (left cursor.old)) }
 {
     let name = cursor.name(alloc)?;
-    cursor.mark(Mark::Colon)?;
+    cursor.mark(Sign::Colon)?;
     Ok(name)
 }
 

@@ -1,16 +1,17 @@
-//! Parts that several forms of statement share, as they are written.
+//! Writers of parts that several forms of statement share, and of ranges, patterns and roles: each
+//! adds to a line what specs/Writing.antt has for it.
 
 ghost use Rattle.std.specs.Prelude.{◌≡◌, ◌∷◌, ◌++◌, [], OnOk};
 ghost use Rattle.state_space.specs.Ranges.{form_of};
 ghost use Rattle.model_text.specs.Tokens.{keyword, mark, name as name_form};
 ghost use Rattle.model_text.specs.Writing.{names_tokens, range_tokens, part_tokens, pattern_tokens, exact_tokens, role_token};
 ghost use Rattle.model_text.specs.Lines.{with_token, with_tokens, behind_commas};
-ghost use Rattle.model_text.specs.declared.token.Mark.TheVariants.{Colon};
+ghost use Rattle.model_text.specs.declared.token.Sign.TheVariants.{Colon};
 ghost use Rattle.state_space.specs.declared.keyword.Keyword.TheVariants as keywords;
 
 use crate::line::Line;
 use crate::statement::Role;
-use crate::token::Mark;
+use crate::token::Sign;
 use source_sink::Memory;
 use state_space::{Keyword, Name, Range};
 
@@ -19,7 +20,7 @@ fn more_names(line: &mut Line, names: &[Name]) -> Result<(), Memory>
     ensures { OnOk result (line.new ≡ with_tokens line.old (behind_commas (λ x. name_form x ∷ []) names.now)) }
 {
     'names: for name in names {
-        line.mark(Mark::Comma)?;
+        line.mark(Sign::Comma)?;
         line.name(name)?;
     }
     Ok(())
@@ -39,12 +40,12 @@ pub(crate) fn names(line: &mut Line, names: &[Name]) -> Result<(), Memory>
 }
 
 /// The beginning of a statement up to its colon.
-pub(crate) fn label(line: &mut Line, word: Keyword, name: &Name) -> Result<(), Memory>
+pub(crate) fn declared_name(line: &mut Line, word: Keyword, name: &Name) -> Result<(), Memory>
     ensures { OnOk result (line.new ≡ with_tokens line.old (keyword word ∷ name_form name.now ∷ mark Colon ∷ [])) }
 {
     line.keyword(word)?;
     line.name(name)?;
-    line.mark(Mark::Colon)
+    line.mark(Sign::Colon)
 }
 
 /// The beginning of a statement with a second name behind a keyword.
@@ -100,13 +101,13 @@ pub(crate) fn range(line: &mut Line, range: &Range) -> Result<(), Memory>
     match range {
         Range::Bool => line.keyword(Keyword::Bool),
         Range::Names(values) => {
-            line.mark(Mark::OpenBrace)?;
+            line.mark(Sign::OpenBrace)?;
             names(line, values)?;
-            line.mark(Mark::CloseBrace)
+            line.mark(Sign::CloseBrace)
         }
         Range::Span { lo, hi } => {
             line.number(*lo)?;
-            line.mark(Mark::Dots)?;
+            line.mark(Sign::Dots)?;
             line.number(*hi)
         }
     }

@@ -1,22 +1,21 @@
 //! From tokens to statements. What is read is what the definition reads; a fault stands where no
 //! text goes on.
 
-#[cfg(test)]
-mod tests;
-
-ghost use Rattle.std.specs.Prelude.{◌<◌, ◌≤◌, length, vec_len, OnOk, IfOk};
-ghost use Rattle.model_text.specs.Statements.{statement_of, statements_of};
+ghost use Rattle.std.specs.Prelude.{◌≡◌, ◌+◌, ◌<◌, ◌≤◌, [], ◌∷◌, ◌++◌, length, vec_len, OnOk, IfOk, MatchResult};
+ghost use Rattle.model_text.specs.Statements.{statement_of, all_statements, statements_of};
 ghost use Rattle.model_text.specs.Reading.{Gives, left};
-ghost use Rattle.model_text.specs.StatementReading.{statement_at, ended_statement_at, one_at, version_at, text_at};
+ghost use Rattle.model_text.specs.FormulaReading.{read_as};
+ghost use Rattle.model_text.specs.declared.cursor.Fault.TheVariants.{Memory as MemoryFault};
+ghost use Rattle.model_text.specs.StatementReading.{statement_at, ended_statement_at, version_number_at, version_at, text_at};
 
 use crate::agent_reader::{
     agent, assignment, expectation, operation, operationalisation, requirement,
 };
 use crate::cursor::{Cursor, Fault};
 use crate::link_reader::{conflict, obstruction, refinement};
-use crate::property_reader::{domain, goal, obstacle, rule, variable};
+use crate::property_reader::{attribute, domain, entity_type, goal, obstacle, rule, variable};
 use crate::statement::{RawModel, Statement, StatementKind};
-use crate::token::{Kind, Mark};
+use crate::token::{Further, Sign, TokenKind};
 use crate::trace_reader::trace;
 use state_space::Keyword;
 use std::alloc::Global;
@@ -26,7 +25,13 @@ fn statement(alloc: Global, cursor: &mut Cursor<'_, '_>) -> Result<StatementKind
     ensures shorter { OnOk result (length (left cursor.new) < length (left cursor.old)) }
 {
     let rest = cursor.rest;
-    if let Some(Kind::Keyword(word)) = cursor.next() {
+    if cursor.take_further(Further::Entity) {
+        return entity_type(alloc, cursor);
+    }
+    if cursor.take_further(Further::Attr) {
+        return attribute(alloc, cursor);
+    }
+    if let Some(TokenKind::Keyword(word)) = cursor.next() {
         match word {
             Keyword::Var => return variable(alloc, cursor),
             Keyword::Domain => return domain(alloc, cursor),
@@ -50,27 +55,41 @@ fn statement(alloc: Global, cursor: &mut Cursor<'_, '_>) -> Result<StatementKind
     Err(Fault::Syntax)
 }
 
-// A statement and its semicolon.
+// Appends a statement.
+fn add(statements: &mut Vec<Statement>, kind: StatementKind) -> Result<(), Fault>
+    ensures added { MatchResult result (λ _. all_statements statements.new.items ≡ all_statements statements.old.items ++ statement_of kind ∷ []) (λ e. e ≡ MemoryFault) }
+    ensures count { OnOk result (vec_len statements.new ≡ vec_len statements.old + 1) }
+{
+    statements.push(Statement { kind })?;
+    Ok(())
+}
+
+// Appends a statement, whose semicolon comes behind it.
 #[tactic(auto, unfolding(crate::specs::StatementReading::ended_statement_at))]
-fn ended_statement(alloc: Global, cursor: &mut Cursor<'_, '_>) -> Result<Statement, Fault>
-    ensures exact { Gives (λ s. statement_of s.kind) result (left cursor.new) (ended_statement_at (left cursor.old)) }
+fn ended_statement(
+    alloc: Global,
+    cursor: &mut Cursor<'_, '_>,
+    statements: &mut Vec<Statement>,
+) -> Result<(), Fault>
+    ensures exact { Gives (λ _. all_statements statements.new.items) result (left cursor.new) (read_as (λ s. all_statements statements.old.items ++ s ∷ []) (ended_statement_at (left cursor.old))) }
     ensures shorter { OnOk result (length (left cursor.new) < length (left cursor.old)) }
+    ensures count { OnOk result (vec_len statements.new ≡ vec_len statements.old + 1) }
 {
     let kind = statement(alloc, cursor)?;
-    cursor.mark(Mark::Semicolon)?;
-    Ok(Statement { kind })
+    add(statements, kind)?;
+    cursor.mark(Sign::Semicolon)
 }
 
 // The number of the version.
-#[tactic(auto, unfolding(crate::specs::StatementReading::one_at))]
-fn one(cursor: &mut Cursor<'_, '_>) -> Result<(), Fault>
-    ensures exact { Gives (λ _. tt) result (left cursor.new) (one_at (left cursor.old)) }
+#[tactic(auto, unfolding(crate::specs::StatementReading::version_number_at))]
+fn version_number(cursor: &mut Cursor<'_, '_>) -> Result<u8, Fault>
+    ensures exact { Gives (λ n. n) result (left cursor.new) (version_number_at (left cursor.old)) }
     ensures shorter { OnOk result (length (left cursor.new) < length (left cursor.old)) }
 {
     let rest = cursor.rest;
     if let Some(number) = cursor.take_number() {
-        if number.is_one() {
-            return Ok(());
+        if let Some(version) = number.version() {
+            return Ok(version);
         }
     }
     cursor.rest = rest;
@@ -79,13 +98,14 @@ fn one(cursor: &mut Cursor<'_, '_>) -> Result<(), Fault>
 
 // The statement that opens a text.
 #[tactic(auto, unfolding(crate::specs::StatementReading::version_at))]
-fn version(cursor: &mut Cursor<'_, '_>) -> Result<(), Fault>
+fn version(cursor: &mut Cursor<'_, '_>) -> Result<u8, Fault>
     ensures shorter { OnOk result (length (left cursor.new) < length (left cursor.old)) }
-    ensures exact { Gives (λ _. tt) result (left cursor.new) (version_at (left cursor.old)) }
+    ensures exact { Gives (λ n. n) result (left cursor.new) (version_at (left cursor.old)) }
 {
     cursor.keyword(Keyword::Kaos)?;
-    one(cursor)?;
-    cursor.mark(Mark::Semicolon)
+    let version = version_number(cursor)?;
+    cursor.mark(Sign::Semicolon)?;
+    Ok(version)
 }
 
 /// The statements that the tokens of a cursor spell, to its end.
@@ -94,13 +114,13 @@ pub(crate) fn statements(alloc: Global, cursor: &mut Cursor<'_, '_>) -> Result<R
     ensures exact { Gives statements_of result (left cursor.new) (text_at (left cursor.old)) }
     ensures count { IfOk result (λ raw. vec_len raw.statements ≤ length (left cursor.old)) }
 {
-    version(cursor)?;
+    let version = version(cursor)?;
     let mut statements = Vec::new(alloc);
     statements.push(Statement {
-        kind: StatementKind::Version(1),
+        kind: StatementKind::Version(version),
     })?;
     'turns: while !cursor.rest.is_empty() {
-        statements.push(ended_statement(alloc, cursor)?)?;
+        ended_statement(alloc, cursor, &mut statements)?;
     }
     Ok(RawModel { statements })
 }

@@ -1,4 +1,6 @@
-//! Statements as they are written: names are not looked up yet.
+//! Statements as they are written, for the reader, the writer and resolution: names are not looked
+//! up yet, and lists are as long as the text has them. A further form is a variant here, with its
+//! reader, its writer and its line in specs/Grammar.antt.
 
 use crate::raw_formula::{RawFormula, RawValue};
 use state_space::{Name, Range};
@@ -15,18 +17,22 @@ pub enum Role {
 }
 
 /// A state as it is written: values of some variables.
-#[derive(Debug, Drop)]
+#[derive(Drop)]
 pub struct RawState {
     pub sets: Vec<(Name, RawValue)>,
 }
 
 /// A statement, by its form, with its parts in the order of the text.
-#[derive(Debug, Drop)]
+#[derive(Drop)]
 pub enum StatementKind {
-    /// `kaos 1`, with the number of the version.
+    /// `kaos 1` or `kaos 2`, with the number of the version.
     Version(u8),
     /// `var NAME: RANGE`
     Var(Name, Range),
+    /// `entity NAME: { NAMES }`, of version 2
+    Entity(Name, Vec<Name>),
+    /// `attr NAME of NAME: RANGE`, of version 2: the attribute, the entity type and the range
+    Attr(Name, Name, Range),
     /// `domain NAME: FORMULA`
     Domain(Name, RawFormula),
     /// `rule NAME: FORMULA entails FORMULA`
@@ -58,13 +64,13 @@ pub enum StatementKind {
 }
 
 /// A statement.
-#[derive(Debug, Drop)]
+#[derive(Drop)]
 pub struct Statement {
     pub kind: StatementKind,
 }
 
 /// The statements of a text, in order. The first one is the version.
-#[derive(Debug, Drop)]
+#[derive(Drop)]
 pub struct RawModel {
     pub statements: Vec<Statement>,
 }

@@ -1,13 +1,12 @@
 //! The statements of a text, for whoever is given bytes: `Ok` exactly for readable bytes, with the list that they spell, and else the
 //! first cause for which they are refused.
 
-#[cfg(test)]
-mod tests;
-
-ghost use Rattle.std.specs.Prelude.{◌≡◌, ◌⊎◌, ◌+◌, ◌*◌, ◌-◌, ◌≤◌, ℕ, List, length, map, vec_len, slice_index_or, IfOk, IfErr};
-ghost use Rattle.model_text.specs.Tokens.{form_of, all_placed};
+ghost use Rattle.std.specs.Prelude.{◌≡◌, true, ◌⊎◌, ◌+◌, ◌*◌, ◌-◌, ◌≤◌, ℕ, List, length, map, vec_len, slice_index_or, IfOk, IfErr};
+ghost use Rattle.std.specs.List.{list_all};
+ghost use Rattle.model_text.specs.Tokens.{TokenForm, form_of, all_placed};
 ghost use Rattle.model_text.specs.Statements.{StatementForm, statements_of};
 ghost use Rattle.model_text.specs.Grammar.{Spells};
+ghost use Rattle.model_text.specs.Places.{BeginsText, has_token, IsFaultPlace};
 ghost use Rattle.model_text.specs.Readability.{IsReadable, is_bad as is_bad_form, first_bad, Refuses};
 ghost use Rattle.model_text.specs.declared.text.TextRefusal.TheVariants.{Memory as TextMemory};
 
@@ -16,7 +15,8 @@ use crate::lexer::lex;
 use crate::limits::{LimitKind, MOST_OPERATORS, most_operators, passed_limit};
 use crate::reader::statements;
 use crate::statement::RawModel;
-use crate::token::{Kind, Token};
+use crate::token::{Token, TokenKind};
+use crate::version::of_version;
 use std::alloc::{AllocError, Global};
 
 /// Why a text has no statements. Places are of bytes, from 0.
@@ -26,7 +26,8 @@ pub enum TextRefusal {
     BadByte(u64),
     /// The text passes a limit.
     Limit(LimitKind),
-    /// The bytes are no statements. The place is not beyond the length of the text.
+    /// The bytes are no statements. The tokens up to that of the place and with it begin no text
+    /// that is one, and it is the first such token; where there is none, it is the length.
     Syntax(u64),
     /// Memory ran out.
     Memory,
@@ -40,10 +41,10 @@ impl From<AllocError> for TextRefusal {
     }
 }
 
-fn is_bad(kind: Kind<'_>) -> bool
+fn is_bad(kind: TokenKind<'_>) -> bool
     ensures { result ≡ is_bad_form (form_of kind.entry) }
 {
-    matches!(kind, Kind::BadByte)
+    matches!(kind, TokenKind::BadByte)
 }
 
 // The place of the first byte that no token has.
@@ -60,7 +61,7 @@ fn bad_byte(tokens: &[Token<'_>]) -> Option<usize>
 
 // The place of the token that so many stand behind, itself among them, or the end where it is none.
 fn place_of(tokens: &[Token<'_>], left: usize, end: usize) -> usize
-    ensures { result ≡ slice_index_or (map (λ t. t.at) (all_placed tokens.now)) (length tokens.now - left) end }
+    ensures { result ≡ slice_index_or (map (λ t. t.at) tokens.now) (length tokens.now - left) end }
 {
     match tokens.get(tokens.len().saturating_sub(left)) {
         Some(token) => token.at,
@@ -80,10 +81,11 @@ pub fn read_model(alloc: Global, bytes: &[u8]) -> Result<RawModel, TextRefusal>
     ensures refused { IfErr result (λ e. (e ≡ TextMemory) ⊎ Refuses bytes.now e) }
     ensures count { IfOk result (λ raw. vec_len raw.statements ≤ 3 * length bytes.now + 2) }
 {
-    let tokens = lex(alloc, bytes)?;
-    if let Some(at) = bad_byte(&tokens) {
+    let signs = lex(alloc, bytes)?;
+    if let Some(at) = bad_byte(&signs) {
         return Err(TextRefusal::BadByte(at as u64));
     }
+    let tokens = of_version(alloc, signs)?;
     if most_operators(&tokens) > MOST_OPERATORS {
         return Err(TextRefusal::Limit(LimitKind::Operators));
     }
@@ -105,6 +107,12 @@ pub fn read_model(alloc: Global, bytes: &[u8]) -> Result<RawModel, TextRefusal>
 /// A text that is refused is not readable, as whatever list of statements.
 pub fn law_of_refusals()
     ensures { (bytes : List ℕ) (e : TextRefusal) (ss : List StatementForm) → Refuses bytes e → IsReadable bytes ss → ⊥ }
+{}
+
+/// A text has one place of a fault, and no place without a token stands before it.
+pub fn law_of_fault_places()
+    ensures one { (bytes : List ℕ) (m n : ℕ) → IsFaultPlace bytes m → IsFaultPlace bytes n → m ≡ n }
+    ensures tokens { (ts : List TokenForm) → BeginsText ts → list_all has_token ts ≡ true }
 {}
 
 /// No text spells two lists of statements.

@@ -1,4 +1,5 @@
-//! Tokens: what the reader of the model language sees in place of bytes.
+//! Tokens: what the reader of the model language sees in place of bytes. They borrow the text, so
+//! that lexing copies no byte. A word carries that it has the form of a name and is no keyword.
 
 ghost use Rattle.std.specs.Prelude.{◌≡◌, true, is_none};
 ghost use Rattle.state_space.specs.Names.{has_name_form};
@@ -10,7 +11,7 @@ use std::alloc::Global;
 
 /// A token that is neither a word nor a number.
 #[derive(Clone, Copy, Debug, PartialEq, Eq)]
-pub enum Mark {
+pub enum Sign {
     Semicolon,
     Colon,
     Comma,
@@ -27,8 +28,19 @@ pub enum Mark {
     Dots,
 }
 
+/// A token that only a text of version 2 has.
+#[derive(Clone, Copy, Debug, PartialEq, Eq)]
+pub enum Further {
+    Entity,
+    Attr,
+    All,
+    Some,
+    /// A `(` directly behind a name.
+    OpenArgument,
+}
+
 /// A word that begins with a letter and is no keyword, of any length.
-#[derive(Clone, Copy, Debug)]
+#[derive(Clone, Copy)]
 pub struct Word<'t> {
     pub bytes: &'t [u8],
     pub ghost form: { has_name_form bytes.now ≡ true },
@@ -53,16 +65,18 @@ impl<'t> Word<'t> {
 }
 
 /// What stands at a place of the text.
-#[derive(Clone, Copy, Debug)]
-pub enum Kind<'t> {
+#[derive(Clone, Copy)]
+pub enum TokenKind<'t> {
     /// A word that the language keeps for itself.
     Keyword(Keyword),
     /// A sign of punctuation or comparison.
-    Mark(Mark),
+    Sign(Sign),
     /// A name, but for its length.
     Name(Word<'t>),
     /// A word of digits alone, with or without a `-` directly before it.
     Number { negative: bool, digits: &'t [u8] },
+    /// A token that only version 2 has.
+    Further(Further),
     /// Bytes that tokens have, but that are no token here.
     Stray,
     /// A byte that no token has.
@@ -70,8 +84,8 @@ pub enum Kind<'t> {
 }
 
 /// A token and the place of its first byte, from 0.
-#[derive(Clone, Copy, Debug)]
+#[derive(Clone, Copy)]
 pub struct Token<'t> {
     pub at: usize,
-    pub kind: Kind<'t>,
+    pub kind: TokenKind<'t>,
 }

@@ -1,4 +1,5 @@
-//! Traces: states, each with the values of some variables.
+//! The reader of traces: states in braces, each with the values of some variables, and behind
+//! `loop` one or more that are repeated for ever. It gives what specs/StatementReading.antt gives.
 
 ghost use Rattle.std.specs.Prelude.{◌<◌, ◌≤◌, length, map, OnOk};
 ghost use Rattle.model_text.specs.Statements.{settings_of, statement_of};
@@ -7,10 +8,10 @@ ghost use Rattle.model_text.specs.Reading.{Gives, left};
 ghost use Rattle.model_text.specs.StatementReading.{setting_of, set_at, some_sets_at, state_at, states_at, cycle_at, trace_at};
 
 use crate::cursor::{Cursor, Fault};
-use crate::part_reader::label;
+use crate::part_reader::declared_name;
 use crate::raw_formula::RawValue;
 use crate::statement::{RawState, StatementKind};
-use crate::token::Mark;
+use crate::token::Sign;
 use state_space::{Keyword, Name};
 use std::alloc::Global;
 
@@ -21,7 +22,7 @@ fn set(alloc: Global, cursor: &mut Cursor<'_, '_>) -> Result<(Name, RawValue), F
     ensures shorter { OnOk result (length (left cursor.new) < length (left cursor.old)) }
 {
     let name = cursor.name(alloc)?;
-    cursor.mark(Mark::Equal)?;
+    cursor.mark(Sign::Equal)?;
     let value = cursor.value(alloc)?;
     Ok((name, value))
 }
@@ -35,7 +36,7 @@ fn sets(alloc: Global, cursor: &mut Cursor<'_, '_>) -> Result<Vec<(Name, RawValu
     let first = set(alloc, cursor)?;
     let mut sets = Vec::new(alloc);
     sets.push(first)?;
-    'sets: while cursor.take_mark(Mark::Comma) {
+    'sets: while cursor.take_mark(Sign::Comma) {
         let next = set(alloc, cursor)?;
         sets.push(next)?;
     }
@@ -49,7 +50,7 @@ fn some_sets(alloc: Global, cursor: &mut Cursor<'_, '_>) -> Result<RawState, Fau
     ensures shorter { OnOk result (length (left cursor.new) < length (left cursor.old)) }
 {
     let sets = sets(alloc, cursor)?;
-    cursor.mark(Mark::CloseBrace)?;
+    cursor.mark(Sign::CloseBrace)?;
     Ok(RawState { sets })
 }
 
@@ -59,7 +60,7 @@ fn state(alloc: Global, cursor: &mut Cursor<'_, '_>) -> Result<RawState, Fault>
     ensures exact { Gives settings_of result (left cursor.new) (state_at (left cursor.old)) }
     ensures shorter { OnOk result (length (left cursor.new) < length (left cursor.old)) }
 {
-    if cursor.take_mark(Mark::CloseBrace) {
+    if cursor.take_mark(Sign::CloseBrace) {
         return Ok(RawState {
             sets: Vec::new(alloc),
         });
@@ -74,7 +75,7 @@ fn states(alloc: Global, cursor: &mut Cursor<'_, '_>) -> Result<Vec<RawState>, F
     ensures shorter { OnOk result (length (left cursor.new) ≤ length (left cursor.old)) }
 {
     let mut states = Vec::new(alloc);
-    'states: while cursor.take_mark(Mark::OpenBrace) {
+    'states: while cursor.take_mark(Sign::OpenBrace) {
         let next = state(alloc, cursor)?;
         states.push(next)?;
     }
@@ -100,7 +101,7 @@ pub(crate) fn trace(alloc: Global, cursor: &mut Cursor<'_, '_>) -> Result<Statem
     ensures exact { Gives statement_of result (left cursor.new) (trace_at (left cursor.old)) }
     ensures shorter { OnOk result (length (left cursor.new) < length (left cursor.old)) }
 {
-    let name = label(alloc, cursor)?;
+    let name = declared_name(alloc, cursor)?;
     let prefix = states(alloc, cursor)?;
     cursor.keyword(Keyword::Loop)?;
     let cycle = cycle(alloc, cursor)?;

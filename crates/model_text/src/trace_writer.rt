@@ -9,10 +9,10 @@ ghost use Rattle.model_text.specs.Lines.{with_tokens, behind_commas};
 
 use crate::formula_writer::value;
 use crate::line::Line;
-use crate::part_writer::label;
+use crate::part_writer::declared_name;
 use crate::raw_formula::RawValue;
 use crate::statement::RawState;
-use crate::token::Mark;
+use crate::token::Sign;
 use source_sink::Memory;
 use state_space::{Keyword, Name};
 
@@ -21,7 +21,7 @@ fn set(line: &mut Line, variable: &Name, given: &RawValue) -> Result<(), Memory>
     ensures { OnOk result (line.new ≡ with_tokens line.old (set_tokens (setting_of (variable.now, given.now)))) }
 {
     line.name(variable)?;
-    line.mark(Mark::Equal)?;
+    line.mark(Sign::Equal)?;
     value(line, given)
 }
 
@@ -30,7 +30,7 @@ fn more_sets(line: &mut Line, sets: &[(Name, RawValue)]) -> Result<(), Memory>
     ensures { OnOk result (line.new ≡ with_tokens line.old (behind_commas (λ s. set_tokens (setting_of s)) sets.now)) }
 {
     'sets: for item in sets {
-        line.mark(Mark::Comma)?;
+        line.mark(Sign::Comma)?;
         set(line, &item.0, &item.1)?;
     }
     Ok(())
@@ -54,9 +54,9 @@ fn sets(line: &mut Line, sets: &[(Name, RawValue)]) -> Result<(), Memory>
 fn state(line: &mut Line, state: &RawState) -> Result<(), Memory>
     ensures { OnOk result (line.new ≡ with_tokens line.old (state_tokens (settings_of state.now))) }
 {
-    line.mark(Mark::OpenBrace)?;
+    line.mark(Sign::OpenBrace)?;
     sets(line, &state.sets)?;
-    line.mark(Mark::CloseBrace)
+    line.mark(Sign::CloseBrace)
 }
 
 /// States, one behind another.
@@ -79,7 +79,7 @@ pub(crate) fn trace(
 ) -> Result<(), Memory>
     ensures { OnOk result (line.new ≡ with_tokens line.old (statement_tokens (trace name.now (map settings_of prefix.now) (map settings_of cycle.now)))) }
 {
-    label(line, Keyword::Trace, name)?;
+    declared_name(line, Keyword::Trace, name)?;
     states(line, prefix)?;
     line.keyword(Keyword::Loop)?;
     states(line, cycle)

@@ -1,15 +1,13 @@
 //! The written form of a list of statements: each on a line of its own, in order.
 
-#[cfg(test)]
-mod tests;
-
 ghost use Rattle.std.specs.Prelude.{◌≡◌, ◌∷◌, ◌++◌, [], true, IfOk, OnOk, ℕ, List};
 ghost use Rattle.std.specs.List.{flat_map};
-ghost use Rattle.model_text.specs.RawSeen.{raw_tree};
+ghost use Rattle.state_space.specs.Ranges.{form_of};
+ghost use Rattle.model_text.specs.RawView.{raw_tree};
 ghost use Rattle.model_text.specs.FormulaGrammar.{whole_level, iff_level};
 ghost use Rattle.model_text.specs.Tokens.{keyword, mark, name as name_form};
-ghost use Rattle.model_text.specs.declared.token.Mark.TheVariants.{Colon};
-ghost use Rattle.model_text.specs.Statements.{StatementForm, statement_of, statements_of, rule, conflict, agent, operation, requirement};
+ghost use Rattle.model_text.specs.declared.token.Sign.TheVariants.{Colon};
+ghost use Rattle.model_text.specs.Statements.{StatementForm, statement_of, statements_of, entity_type, attribute, rule, conflict, agent, operation, requirement};
 ghost use Rattle.model_text.specs.Readability.{IsReadable};
 ghost use Rattle.model_text.specs.Writing.{whole_tokens, formula_tokens, statement_tokens};
 ghost use Rattle.model_text.specs.Layout.{written_statement, written_text};
@@ -18,10 +16,10 @@ ghost use Rattle.model_text.specs.Lines.{with_tokens};
 use crate::formula_writer::formula;
 use crate::level::Level;
 use crate::line::Line;
-use crate::part_writer::{exact, group, label, names, pair, part, pattern, range, role};
+use crate::part_writer::{declared_name, exact, group, names, pair, part, pattern, range, role};
 use crate::raw_formula::RawFormula;
 use crate::statement::{RawModel, Role, Statement, StatementKind};
-use crate::token::Mark;
+use crate::token::{Further, Sign};
 use crate::trace_writer::trace;
 use source_sink::Memory;
 use state_space::{Keyword, Name, Range};
@@ -35,12 +33,38 @@ fn body_behind(line: &mut Line, word: Keyword, body: &RawFormula) -> Result<(), 
     formula(line, Level::Whole, body)
 }
 
-/// A statement with a whole formula behind its label.
+/// A statement with a whole formula behind its declared_name.
 fn labelled(line: &mut Line, word: Keyword, name: &Name, body: &RawFormula) -> Result<(), Memory>
     ensures { OnOk result (line.new ≡ with_tokens line.old (keyword word ∷ name_form name.now ∷ mark Colon ∷ whole_tokens (raw_tree body.now))) }
 {
-    label(line, word, name)?;
+    declared_name(line, word, name)?;
     formula(line, Level::Whole, body)
+}
+
+/// An entity type with its members.
+#[tactic(auto, using(crate::proofs::LineLaws::with_both), unfolding(crate::specs::Writing::statement_tokens))]
+fn entity_type(line: &mut Line, name: &Name, members: &[Name]) -> Result<(), Memory>
+    ensures { OnOk result (line.new ≡ with_tokens line.old (statement_tokens (entity_type name.now members.now))) }
+{
+    line.further(Further::Entity)?;
+    line.name(name)?;
+    line.mark(Sign::Colon)?;
+    line.mark(Sign::OpenBrace)?;
+    names(line, members)?;
+    line.mark(Sign::CloseBrace)
+}
+
+/// An attribute with its type and its range.
+#[tactic(auto, using(crate::proofs::LineLaws::with_both), unfolding(crate::specs::Writing::statement_tokens))]
+fn attribute(line: &mut Line, name: &Name, entity: &Name, values: &Range) -> Result<(), Memory>
+    ensures { OnOk result (line.new ≡ with_tokens line.old (statement_tokens (attribute name.now entity.now (form_of values.now)))) }
+{
+    line.further(Further::Attr)?;
+    line.name(name)?;
+    line.keyword(Keyword::Of)?;
+    line.name(entity)?;
+    line.mark(Sign::Colon)?;
+    range(line, values)
 }
 
 /// A rule with its cause and its effect.
@@ -48,7 +72,7 @@ fn labelled(line: &mut Line, word: Keyword, name: &Name, body: &RawFormula) -> R
 fn rule(line: &mut Line, name: &Name, cause: &RawFormula, effect: &RawFormula) -> Result<(), Memory>
     ensures { OnOk result (line.new ≡ with_tokens line.old (statement_tokens (rule name.now (raw_tree cause.now) (raw_tree effect.now)))) }
 {
-    label(line, Keyword::Rule, name)?;
+    declared_name(line, Keyword::Rule, name)?;
     formula(line, Level::Iff, cause)?;
     line.keyword(Keyword::Entails)?;
     formula(line, Level::Iff, effect)
@@ -64,7 +88,7 @@ fn conflict(
 ) -> Result<(), Memory>
     ensures { OnOk result (line.new ≡ with_tokens line.old (statement_tokens (conflict name.now goals.now (raw_tree boundary.now)))) }
 {
-    label(line, Keyword::Conflict, name)?;
+    declared_name(line, Keyword::Conflict, name)?;
     names(line, goals)?;
     body_behind(line, Keyword::Boundary, boundary)
 }
@@ -128,9 +152,11 @@ fn statement(line: &mut Line, kind: &StatementKind) -> Result<(), Memory>
             line.number(*number as i64)
         }
         StatementKind::Var(x, values) => {
-            label(line, Keyword::Var, x)?;
+            declared_name(line, Keyword::Var, x)?;
             range(line, values)
         }
+        StatementKind::Entity(x, members) => entity_type(line, x, members),
+        StatementKind::Attr(x, entity, values) => attribute(line, x, entity, values),
         StatementKind::Domain(x, body) => labelled(line, Keyword::Domain, x, body),
         StatementKind::Rule(x, cause, effect) => rule(line, x, cause, effect),
         StatementKind::Goal(x, body) => labelled(line, Keyword::Goal, x, body),
@@ -160,7 +186,7 @@ fn put_statement(alloc: Global, out: &mut Vec<u8>, written: &Statement) -> Resul
 {
     let mut line = Line::new(alloc);
     statement(&mut line, &written.kind)?;
-    line.mark(Mark::Semicolon)?;
+    line.mark(Sign::Semicolon)?;
     out.extend_from_slice(line.bytes())?;
     out.push(b'\n')?;
     Ok(())

@@ -1,4 +1,5 @@
-//! Why a read or a write did not come to its end.
+//! Why a read or a write did not come to its end. Each is a type of its own, so that a function
+//! says by its answer which of them it can meet.
 
 ghost use Rattle.std.specs.Prelude.{◌≡◌};
 ghost use Rattle.source_sink.specs.declared.fault.ReadAll.TheVariants as read_all_errors;

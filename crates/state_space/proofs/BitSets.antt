@@ -16,7 +16,7 @@ meet_has a b i = min_is_one (bit_at a i) (bit_at b i) (bit_at (bit_and a b) i) (
 flipped : (x y : ℕ) → y ≡ 1 - x → x < 2 → (y ≡ 1) ↔ ¬ (x ≡ 1)
 flipped x y e p = (λ h g. omega arith, λ h. omega arith)
 
-not_one_from_zero : (x : ℕ) → x ≡ 0 → x ≡ 1 → ⊥
+pub not_one_from_zero : (x : ℕ) → x ≡ 0 → x ≡ 1 → ⊥
 not_one_from_zero x e h = omega arith
 
 -- all bits turned round, at 64 bits

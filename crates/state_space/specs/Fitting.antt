@@ -1,4 +1,4 @@
--- Which values a state may have.
+-- When a state is one of a space: as many values as variables, each of its own variable.
 use Rattle.std.specs.Prelude.{◌≡◌, ℕ, ◌<◌, List, length, slice_index}
 
 -- as many values as variables, each below its variable's size

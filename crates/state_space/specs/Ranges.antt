@@ -9,6 +9,7 @@ pub data RangeForm : Type 0 where
   named : (values : List (List ℕ)) → RangeForm
   span : (low high : ℤ) → RangeForm
 
+-- the range that one of the code stands for
 abbrev pub form_of : Range → RangeForm
 form_of Bool = truth_values
 form_of (Names ns) = named ns.items

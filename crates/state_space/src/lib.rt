@@ -16,6 +16,3 @@ pub use range::Range;
 pub use space::{AddRefusal, Space};
 pub use state::State;
 pub use values::{Values, VarId};
-
-#[cfg(test)]
-mod tests;

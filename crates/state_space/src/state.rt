@@ -1,4 +1,5 @@
-//! States: one value for each variable.
+//! States: one value for each variable, as its index in the variable's range. A state does not know
+//! its space: `fits` tells whether it is one of it.
 
 ghost use Rattle.std.specs.Prelude.{◌≡◌, ◌↔◌, IsTrue, IfOk};
 ghost use Rattle.state_space.specs.Spaces.{sizes};

@@ -1,4 +1,5 @@
-//! The texts of values, and of sets of them.
+//! The texts of values, and of sets of them, as a model has them: what other crates write of
+//! values, they write with these. The bytes are those of specs/ValueTexts.antt.
 
 ghost use Rattle.std.specs.Prelude.{◌≡◌, ◌++◌, ◌<◌, ◌≤◌, ◌==◌, pos, ◌+ℤ◌, OnOk, map, if◌then◌else◌, codes};
 ghost use Rattle.std.specs.Fmt.{signed_decimal};

@@ -1,4 +1,5 @@
-//! Numbers of variables, and sets of value indexes as the bits of a number.
+//! Numbers of variables, and sets of value indexes as the bits of a number: a range has at most 64
+//! values, so that a set is one word, and each operation works on the whole word.
 
 ghost use Rattle.std.specs.Prelude.{◌≡◌, ℕ, ◌^◌, ◌<◌, ◌≤◌, ◌↔◌, ◌⊎◌, IsTrue, IsNone, IfSome, bit_and, bit_or};
 

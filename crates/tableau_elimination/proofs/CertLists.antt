@@ -6,7 +6,7 @@ use Rattle.std.proofs.lemmas.List.{length-map, length-append, get_or_append_left
 use Rattle.tableau_rules.specs.declared.certificate.CertNode.{CertNode}
 use Rattle.tableau_rules.specs.Walks.{no_node}
 use Rattle.tableau_rules.specs.Certificates.{clash, CertNodeForm}
-use Rattle.tableau_rules.specs.CertSeen.{cert_node_of}
+use Rattle.tableau_rules.specs.CertView.{cert_node_of}
 use Rattle.tableau_rules.specs.Graphs.{GraphNodeForm}
 use Rattle.tableau_rules.proofs.Linked.{no_graph_node, get_at, get_of}
 use Rattle.tableau_elimination.specs.declared.cause.Cause.{Cause}

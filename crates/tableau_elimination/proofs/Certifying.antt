@@ -6,13 +6,13 @@ use Rattle.std.proofs.lemmas.List.Elements.{All-from_recursion}
 use Rattle.state_space.specs.Members.{full_of}
 use Rattle.bound_unfolding.specs.CoreForm.{CoreForm}
 use Rattle.formula_table.specs.Closures.{formula_at, closure_of}
-use Rattle.tableau_rules.specs.declared.link.Link.{Link}
+use Rattle.tableau_rules.specs.declared.edges.Edges.{Edges}
 use Rattle.tableau_rules.specs.Rules.{is_clash}
 use Rattle.tableau_rules.specs.Nodes.{NodeForm, carries, node_rule, kids, root_of}
 use Rattle.tableau_rules.specs.Certificates.{wait, CertNodeForm, HoldsKids, EachKid, FirstKid, is_until, Waits, IsEliminated, IsOfQuery, IsValid}
 use Rattle.tableau_rules.specs.Graphs.{IsReached, GraphNodeForm, nodes_in, PlacesHold, IsWhole}
 use Rattle.tableau_rules.specs.Links.{Among, IsHead, kids_at, fulfils_at, carries_at, IsLinked}
-use Rattle.tableau_rules.proofs.Lists.{and_true}
+use Rattle.formula_table.proofs.Tests.{and_true}
 use Rattle.tableau_rules.proofs.QueryNodes.{reached_of_query}
 use Rattle.tableau_rules.proofs.Linked.{no_graph_node, get_at, get_of, get_same, node_at_place, place_of_node, held_at, held_count, carries_get}
 use Rattle.tableau_elimination.specs.declared.cause.Cause.{Cause}
@@ -21,7 +21,7 @@ use Rattle.tableau_elimination.specs.Marks.{cause_at, IsRight, AreRight}
 use Rattle.tableau_elimination.specs.CertNodes.{reason_by, cert_node_by, IsCertOf}
 use Rattle.tableau_elimination.proofs.Places.{has_kid, has_none}
 
-module _ (sizes : List ℕ) (cores : List CoreForm) (graph : List GraphNodeForm) (links : List Link) (whole : IsWhole sizes cores graph) (linked : IsLinked cores graph links)
+module _ (sizes : List ℕ) (cores : List CoreForm) (graph : List GraphNodeForm) (links : List Edges) (whole : IsWhole sizes cores graph) (linked : IsLinked cores graph links)
     (ranks : List ℕ) (causes : List Cause) (right : AreRight links (carries_at (closure_of cores) graph) (fulfils_at links) ranks causes)
     (cert : List CertNodeForm) (is : IsCertOf graph ranks causes cert) where
   abbrev closure : List CoreForm

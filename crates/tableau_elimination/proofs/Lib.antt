@@ -4,5 +4,4 @@ pub mod RoundSteps
 pub mod CertLists
 pub mod Certifying
 pub mod Places
-pub mod SmallWholes
 pub mod RightMarks

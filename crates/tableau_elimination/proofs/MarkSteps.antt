@@ -1,7 +1,7 @@
 -- One more place that is gone, and what is known when the first is.
 use Rattle.std.proofs.Common.{◌≡◌, ◌≢◌, ℕ, zero, suc, ◌+◌, ◌-◌, ◌<◌, ◌≤◌, List, [], ◌∷◌, length, get_or, set, Bool, true, false, refl, sym, subst, ◌∙◌, inl, inr, arith, get_or-set_same, get_or-set_other, length-set}
 use Rattle.std.proofs.lemmas.Bool.{cases_eq}
-use Rattle.tableau_rules.specs.declared.link.Link.{Link}
+use Rattle.tableau_rules.specs.declared.edges.Edges.{Edges}
 use Rattle.tableau_elimination.specs.declared.cause.Cause.{Cause}
 use Rattle.tableau_elimination.specs.declared.cause.Cause.TheVariants.{Dead, Wait}
 use Rattle.tableau_rules.specs.Links.{Among, kids_at, InRange, PlaceReached, start, more}
@@ -19,7 +19,7 @@ living_most [] = omega arith
 living_most (true ∷ xs) = let h = living_most xs in omega (arith, h)
 living_most (false ∷ xs) = let h = living_most xs in omega (arith, h)
 
-pub right_kept : (links : List Link) (carrying fulfilling : ℕ → ℕ → Bool) (ranks new_ranks : List ℕ) (causes new_causes : List Cause) (n : ℕ) (w : Cause) → get_or new_ranks n 0 ≡ get_or ranks n 0
+pub right_kept : (links : List Edges) (carrying fulfilling : ℕ → ℕ → Bool) (ranks new_ranks : List ℕ) (causes new_causes : List Cause) (n : ℕ) (w : Cause) → get_or new_ranks n 0 ≡ get_or ranks n 0
     → ((k : ℕ) → Among k (kids_at links n) → (get_or new_ranks k 0 ≡ get_or ranks k 0) × (cause_at new_causes k ≡ cause_at causes k)) → IsRight links carrying fulfilling ranks causes n w → IsRight links carrying fulfilling new_ranks new_causes n w
 right_kept links carrying fulfilling ranks new_ranks causes new_causes n Dead e f h = λ k a. let x = h k a in let y = (f k a).0 in omega (arith, x, y, e)
 right_kept links carrying fulfilling ranks new_ranks causes new_causes n (Wait u) e f h = (
@@ -32,7 +32,7 @@ right_kept links carrying fulfilling ranks new_ranks causes new_causes n (Wait u
   (λ u k a. let x = h.3 u k a in let y = (f k (head_among (kids_at links n) k a)).0 in omega (arith, x, y, e)),
 )
 
-module _ (links : List Link) (carrying fulfilling : ℕ → ℕ → Bool) (alive : List Bool) (ranks : List ℕ) (causes : List Cause) (left i : ℕ) (range : InRange links) (lt : i < length links)
+module _ (links : List Edges) (carrying fulfilling : ℕ → ℕ → Bool) (alive : List Bool) (ranks : List ℕ) (causes : List Cause) (left i : ℕ) (range : InRange links) (lt : i < length links)
     (marked : AreMarked links carrying fulfilling alive ranks causes left) (live : Alive alive i) where
   pub has_left : (0 < left) × (left ≤ length links)
   has_left =
@@ -82,7 +82,7 @@ module _ (links : List Link) (carrying fulfilling : ℕ → ℕ → Bool) (alive
         ];
       }
 
-pub cleared_take : (links : List Link) (carrying fulfilling : ℕ → ℕ → Bool) (old alive : List Bool) (ranks : List ℕ) (causes : List Cause) (before left n i : ℕ) → InRange links → i < length links → n ≤ suc i
+pub cleared_take : (links : List Edges) (carrying fulfilling : ℕ → ℕ → Bool) (old alive : List Bool) (ranks : List ℕ) (causes : List Cause) (before left n i : ℕ) → InRange links → i < length links → n ≤ suc i
     → Alive alive i → some_is (alive_at alive) (kids_at links i) ≡ false → AreCleared links carrying fulfilling old alive ranks causes before left n
     → AreCleared links carrying fulfilling old (set alive i false) (set ranks i (length links - left)) (set causes i Dead) before (left - 1) i
 cleared_take links carrying fulfilling old alive ranks causes before left n i range lt le live none c =
@@ -103,7 +103,7 @@ cleared_take links carrying fulfilling old alive ranks causes before left n i ra
       ];
     }
 
-pub cleared_skip : (links : List Link) (carrying fulfilling : ℕ → ℕ → Bool) (old alive : List Bool) (ranks : List ℕ) (causes : List Cause) (before left n i : ℕ) → n ≤ suc i
+pub cleared_skip : (links : List Edges) (carrying fulfilling : ℕ → ℕ → Bool) (old alive : List Bool) (ranks : List ℕ) (causes : List Cause) (before left n i : ℕ) → n ≤ suc i
     → (Alive alive i → some_is (alive_at alive) (kids_at links i) ≡ true) → AreCleared links carrying fulfilling old alive ranks causes before left n → AreCleared links carrying fulfilling old alive ranks causes before left i
 cleared_skip links carrying fulfilling old alive ranks causes before left n i le goes c =
     record {
@@ -120,24 +120,24 @@ cleared_skip links carrying fulfilling old alive ranks causes before left n i le
       ];
     }
 
-pub cleared_start : (links : List Link) (carrying fulfilling : ℕ → ℕ → Bool) (alive : List Bool) (ranks : List ℕ) (causes : List Cause) (left : ℕ) → AreMarked links carrying fulfilling alive ranks causes left → AreCleared links carrying fulfilling alive alive ranks causes left left (length links)
+pub cleared_start : (links : List Edges) (carrying fulfilling : ℕ → ℕ → Bool) (alive : List Bool) (ranks : List ℕ) (causes : List Cause) (left : ℕ) → AreMarked links carrying fulfilling alive ranks causes left → AreCleared links carrying fulfilling alive alive ranks causes left left (length links)
 cleared_start links carrying fulfilling alive ranks causes left marked =
     record { marked = marked; less = omega arith; same = λ e. refl; goes = λ e m ml mg. absurd (omega arith); leafless = λ m ml mg. absurd (omega arith) }
 
 -- where the first place is gone, so is each
-gone_from : (links : List Link) (carrying fulfilling : ℕ → ℕ → Bool) (alive : List Bool) (ranks : List ℕ) (causes : List Cause) (left : ℕ) → IsConnected links carrying fulfilling → AreMarked links carrying fulfilling alive ranks causes left → Gone alive 0
+gone_from : (links : List Edges) (carrying fulfilling : ℕ → ℕ → Bool) (alive : List Bool) (ranks : List ℕ) (causes : List Cause) (left : ℕ) → IsConnected links carrying fulfilling → AreMarked links carrying fulfilling alive ranks causes left → Gone alive 0
     → (n : ℕ) → PlaceReached links n → (n < length links) × Gone alive n
 gone_from links carrying fulfilling alive ranks causes left connected marked h _ start = (connected.some, h)
 gone_from links carrying fulfilling alive ranks causes left connected marked h n (more k _ r a) =
     let was = gone_from links carrying fulfilling alive ranks causes left connected marked h k r in
     (each_at (λ p. p < length links) (kids_at links k) n (connected.in_range k was.0) a, marked.shut k was.0 was.1 n a)
 
-pub valid : (links : List Link) (carrying fulfilling : ℕ → ℕ → Bool) (alive : List Bool) (ranks : List ℕ) (causes : List Cause) (left : ℕ) → IsConnected links carrying fulfilling → AreMarked links carrying fulfilling alive ranks causes left → Gone alive 0 → AreRight links carrying fulfilling ranks causes
+pub valid : (links : List Edges) (carrying fulfilling : ℕ → ℕ → Bool) (alive : List Bool) (ranks : List ℕ) (causes : List Cause) (left : ℕ) → IsConnected links carrying fulfilling → AreMarked links carrying fulfilling alive ranks causes left → Gone alive 0 → AreRight links carrying fulfilling ranks causes
 valid links carrying fulfilling alive ranks causes left connected marked h =
     record { ranked = marked.ranked; caused = marked.caused; right = λ n ng. marked.right n ng (gone_from links carrying fulfilling alive ranks causes left connected marked h n (connected.reached n ng)).1 }
 
 -- levels give paths
-pub comes : (links : List Link) (fulfilling : ℕ → Bool) (alive : List Bool) (levels : List ℕ) → InRange links → HasLevels links fulfilling alive levels → (m n : ℕ) → get_or levels n 0 < m → n < length links → get_or levels n 0 < length links → ComesTo links fulfilling alive n
+pub comes : (links : List Edges) (fulfilling : ℕ → Bool) (alive : List Bool) (levels : List ℕ) → InRange links → HasLevels links fulfilling alive levels → (m n : ℕ) → get_or levels n 0 < m → n < length links → get_or levels n 0 < length links → ComesTo links fulfilling alive n
 comes links fulfilling alive levels range h zero n nm ng l = absurd (omega arith)
 comes links fulfilling alive levels range h (suc m) n nm ng l =
     let w = h.way n ng l in

@@ -5,22 +5,24 @@ use Rattle.std.proofs.lemmas.List.{length-map}
 use Rattle.state_space.specs.Members.{full_of}
 use Rattle.bound_unfolding.specs.CoreForm.{CoreForm}
 use Rattle.formula_table.specs.Closures.{formula_at, closure_of}
-use Rattle.tableau_rules.specs.declared.link.Link.{Link}
+use Rattle.tableau_rules.specs.declared.edges.Edges.{Edges}
 use Rattle.tableau_rules.specs.Rules.{Rule, clash, step, one, two, fulfil_only, wait_only, fulfil_or_wait, is_clash}
 use Rattle.tableau_rules.specs.Nodes.{NodeForm, carries, node_rule, kids_by, kids, root_of}
 use Rattle.tableau_rules.specs.Certificates.{is_until}
 use Rattle.tableau_rules.specs.Graphs.{GraphNodeForm, nodes_in, IsWhole}
 use Rattle.tableau_rules.specs.Surviving.{Stays, LeadsToFulfilment, here as leads_here, later as leads_later, Survives}
-use Rattle.tableau_rules.specs.QuerySeen.{cores_in}
-use Rattle.tableau_rules.specs.GraphSeen.{graph_of}
-use Rattle.tableau_elimination.specs.declared.search.Search.{Search}
+use Rattle.tableau_rules.specs.QueryView.{cores_in}
+use Rattle.tableau_rules.specs.GraphView.{graph_of}
+use Rattle.tableau_elimination.specs.declared.linked_graph.LinkedGraph.{LinkedGraph}
 use Rattle.tableau_rules.specs.Links.{Among, IsHead, kids_at, fulfils_at, carries_at, IsLinked}
 use Rattle.tableau_rules.specs.Levels.{Alive, ComesTo, here, later, PlacesSurvive}
-use Rattle.tableau_rules.proofs.Lists.{AnyOf, and_true, and_intro}
+use Rattle.formula_table.proofs.Tests.{and_true, and_intro}
+use Rattle.tableau_rules.proofs.Lists.{AnyOf}
 use Rattle.tableau_rules.proofs.Linked.{no_graph_node, get_at, get_of, held_at, kids_held, carries_get, in_range, goes_on, all_reached}
 use Rattle.tableau_elimination.specs.Marks.{IsConnected, IsReady}
+use Rattle.tableau_rules.proofs.Closing.{until_below}
 
-pub connected : (sizes : List ℕ) (cores : List CoreForm) (graph : List GraphNodeForm) (links : List Link) → IsWhole sizes cores graph → IsLinked cores graph links
+pub connected : (sizes : List ℕ) (cores : List CoreForm) (graph : List GraphNodeForm) (links : List Edges) → IsWhole sizes cores graph → IsLinked cores graph links
     → IsConnected links (carries_at (closure_of cores) graph) (fulfils_at links)
 connected sizes cores graph links whole linked =
     let root = root_of (closure_of cores) (full_of sizes) cores in
@@ -33,22 +35,17 @@ connected sizes cores graph links whole linked =
       goes_on = goes_on sizes cores graph links whole linked;
     }
 
-pub ready : (search : Search) (sizes : List ℕ) → length (graph_of search.graph.now) < 2 ^ 32 → IsWhole sizes (cores_in search.query.now) (graph_of search.graph.now)
-    → IsLinked (cores_in search.query.now) (graph_of search.graph.now) search.links.now → IsReady search
-ready search sizes few whole linked =
+pub ready : (linked_graph : LinkedGraph) (sizes : List ℕ) → length (graph_of linked_graph.graph.now) < 2 ^ 32 → IsWhole sizes (cores_in linked_graph.query.now) (graph_of linked_graph.graph.now)
+    → IsLinked (cores_in linked_graph.query.now) (graph_of linked_graph.graph.now) linked_graph.links.now → IsReady linked_graph
+ready linked_graph sizes few whole linked =
     let size = linked.size in
     record {
       few = omega (arith, few, size);
       size = sym size;
-      connected = connected sizes (cores_in search.query.now) (graph_of search.graph.now) search.links.now whole linked;
+      connected = connected sizes (cores_in linked_graph.query.now) (graph_of linked_graph.graph.now) linked_graph.links.now whole linked;
     }
 
 -- ---- what carries is an until of the closure
-until_below : (closure : List CoreForm) (e : ℕ) → IsTrue (is_until (formula_at closure e)) → e < length closure
-until_below [] e h = absurd (true≢false (sym h))
-until_below (c ∷ cs) zero h = omega arith
-until_below (c ∷ cs) (suc e) h = let r = until_below cs e h in omega (arith, r)
-
 pub carried_below : (closure : List CoreForm) (graph : List GraphNodeForm) (e k : ℕ) → carries_at closure graph e k ≡ true → e < length closure
 unfolding carries_at
 carried_below closure graph e k h =
@@ -97,7 +94,7 @@ first_is : (ps : List ℕ) (p : ℕ) → IsHead p ps → slice_get ps 0 ≡ Some
 first_is [] p h = absurd h
 first_is (q ∷ qs) p h = ap Some (sym h)
 
-module _ (sizes : List ℕ) (cores : List CoreForm) (graph : List GraphNodeForm) (links : List Link) (whole : IsWhole sizes cores graph) (linked : IsLinked cores graph links)
+module _ (sizes : List ℕ) (cores : List CoreForm) (graph : List GraphNodeForm) (links : List Edges) (whole : IsWhole sizes cores graph) (linked : IsLinked cores graph links)
     (alive : List Bool) (size : length alive ≡ length graph) where
   abbrev closure : List CoreForm
   closure = closure_of cores

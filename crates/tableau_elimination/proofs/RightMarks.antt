@@ -1,13 +1,14 @@
 -- From the tests of a place that is gone to what makes its mark right.
 use Rattle.std.proofs.Common.{◌≡◌, ℕ, ◌+◌, ◌<◌, ◌⊎◌, List, [], ◌∷◌, length, get_or, Bool, true, false, not, ◌&&◌, nat_lt, nat_eq, cond, take, ◌++◌, refl, sym, ap, ◌∙◌, inl, inr, arith, rules}
 use Rattle.std.proofs.lemmas.List.{take_more}
-use Rattle.tableau_rules.specs.declared.link.Link.{Link}
+use Rattle.tableau_rules.specs.declared.edges.Edges.{Edges}
 use Rattle.tableau_rules.specs.Links.{Among, kids_at}
 use Rattle.tableau_rules.specs.Levels.{head_is, some_is, alive_at}
 use Rattle.tableau_elimination.specs.declared.cause.Cause.{Cause}
 use Rattle.tableau_elimination.specs.declared.cause.Cause.TheVariants.{Dead, Wait}
 use Rattle.tableau_elimination.specs.Marks.{Gone, IsRight, IsWaiting, are_joined, is_late, is_apart, cause_at, living, AreMarked}
-use Rattle.tableau_rules.proofs.PlaceTests.{and_is, bool_of, below_is, head_none, some_none}
+use Rattle.tableau_rules.proofs.PlaceTests.{bool_of, below_is, head_none, some_none}
+use Rattle.std.proofs.lemmas.Bool.{and_parts}
 
 eq_is : (a b : ℕ) → nat_eq a b ≡ true → a ≡ b
 eq_is a b h = search rules
@@ -28,11 +29,11 @@ not_apart ranks causes rank cause p h = elim (bool_of (nat_lt (get_or ranks p 0)
   | inr late ↦
       let same : not (nat_eq (get_or ranks p 0) rank && are_joined cause (cause_at causes p)) ≡ false =
       ap (λ b. not b && not (nat_eq (get_or ranks p 0) rank && are_joined cause (cause_at causes p))) (sym late) ∙ h in
-      let both = and_is (nat_eq (get_or ranks p 0) rank) (are_joined cause (cause_at causes p)) (not_false _ same) in
+      let both = and_parts (nat_eq (get_or ranks p 0) rank) (are_joined cause (cause_at causes p)) (not_false _ same) in
       inr (eq_is (get_or ranks p 0) rank both.0, both.1)
 ]
 
-pub right_dead : (links : List Link) (carrying fulfilling : ℕ → ℕ → Bool) (ranks : List ℕ) (causes : List Cause) (k : ℕ) → some_is (is_apart ranks causes (get_or ranks k 0) Dead) (kids_at links k) ≡ false
+pub right_dead : (links : List Edges) (carrying fulfilling : ℕ → ℕ → Bool) (ranks : List ℕ) (causes : List Cause) (k : ℕ) → some_is (is_apart ranks causes (get_or ranks k 0) Dead) (kids_at links k) ≡ false
     → IsRight links carrying fulfilling ranks causes k Dead
 right_dead links carrying fulfilling ranks causes k none = λ p a.
     elim (not_apart ranks causes (get_or ranks k 0) Dead p (some_none (is_apart ranks causes (get_or ranks k 0) Dead) (kids_at links k) p none a)) [
@@ -44,7 +45,7 @@ right_dead links carrying fulfilling ranks causes k none = λ p a.
     never Dead h = cc
     never (Wait d) h = cc
 
-pub right_wait : (links : List Link) (carrying fulfilling : ℕ → ℕ → Bool) (ranks : List ℕ) (causes : List Cause) (k e : ℕ) → some_is (is_apart ranks causes (get_or ranks k 0) (Wait e)) (kids_at links k) ≡ false
+pub right_wait : (links : List Edges) (carrying fulfilling : ℕ → ℕ → Bool) (ranks : List ℕ) (causes : List Cause) (k e : ℕ) → some_is (is_apart ranks causes (get_or ranks k 0) (Wait e)) (kids_at links k) ≡ false
     → IsWaiting links carrying fulfilling ranks e k → IsRight links carrying fulfilling ranks causes k (Wait e)
 right_wait links carrying fulfilling ranks causes k e none w = (
   w.carries,
@@ -78,7 +79,7 @@ not_true : (b : Bool) → not b ≡ true → b ≡ false
 not_true true h = cc
 not_true false h = refl
 
-pub waiting : (links : List Link) (carrying fulfilling : ℕ → ℕ → Bool) (ranks : List ℕ) (e k : ℕ) → carrying e k ≡ true → 0 < length (kids_at links k)
+pub waiting : (links : List Edges) (carrying fulfilling : ℕ → ℕ → Bool) (ranks : List ℕ) (e k : ℕ) → carrying e k ≡ true → 0 < length (kids_at links k)
     → not (fulfilling e k && head_is (is_late ranks (get_or ranks k 0)) (kids_at links k)) ≡ true → IsWaiting links carrying fulfilling ranks e k
 waiting links carrying fulfilling ranks e k carries some none =
     let rank = get_or ranks k 0 in
@@ -92,17 +93,17 @@ waiting links carrying fulfilling ranks e k carries some none =
     }
 
 -- what is found of a place that is gone
-pub record IsFound (links : List Link) (carrying fulfilling : ℕ → ℕ → Bool) (alive : List Bool) (ranks : List ℕ) (causes : List Cause) (left k : ℕ) : Type 0 where
+pub record IsFound (links : List Edges) (carrying fulfilling : ℕ → ℕ → Bool) (alive : List Bool) (ranks : List ℕ) (causes : List Cause) (left k : ℕ) : Type 0 where
   pub below : get_or ranks k 0 + left < length links
   pub shut : (p : ℕ) → Among p (kids_at links k) → Gone alive p
   pub right : IsRight links carrying fulfilling ranks causes k (cause_at causes k)
 
-pub found : (links : List Link) (carrying fulfilling : ℕ → ℕ → Bool) (alive : List Bool) (ranks : List ℕ) (causes : List Cause) (left k : ℕ) → some_is (alive_at alive) (kids_at links k) ≡ false
+pub found : (links : List Edges) (carrying fulfilling : ℕ → ℕ → Bool) (alive : List Bool) (ranks : List ℕ) (causes : List Cause) (left k : ℕ) → some_is (alive_at alive) (kids_at links k) ≡ false
     → get_or ranks k 0 + left < length links → IsRight links carrying fulfilling ranks causes k (cause_at causes k) → IsFound links carrying fulfilling alive ranks causes left k
 found links carrying fulfilling alive ranks causes left k none below right =
     record { below = below; shut = λ p a. some_none (alive_at alive) (kids_at links k) p none a; right = right }
 
-pub marked_by : (links : List Link) (carrying fulfilling : ℕ → ℕ → Bool) (alive : List Bool) (ranks : List ℕ) (causes : List Cause) (left : ℕ) → length alive ≡ length links → length ranks ≡ length links → length causes ≡ length links
+pub marked_by : (links : List Edges) (carrying fulfilling : ℕ → ℕ → Bool) (alive : List Bool) (ranks : List ℕ) (causes : List Cause) (left : ℕ) → length alive ≡ length links → length ranks ≡ length links → length causes ≡ length links
     → living alive ≡ left → ((k : ℕ) → k < length links → Gone alive k → IsFound links carrying fulfilling alive ranks causes left k) → AreMarked links carrying fulfilling alive ranks causes left
 marked_by links carrying fulfilling alive ranks causes left tested ranked caused rest all =
     record {

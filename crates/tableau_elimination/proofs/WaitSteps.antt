@@ -1,19 +1,19 @@
 -- The places that wait for an until go at once.
 use Rattle.std.proofs.Common.{◌≡◌, ◌≢◌, ℕ, ◌+◌, ◌-◌, ◌<◌, ◌≤◌, ◌⊎◌, List, length, get_or, set, Bool, true, false, refl, sym, ap, subst, ◌∙◌, inl, inr, arith, get_or-set_same, get_or-set_other, length-set, ◌&&◌, ◌||◌, nat_lt, not, cond}
-use Rattle.std.proofs.lemmas.Bool.{cases_eq}
-use Rattle.tableau_rules.specs.declared.link.Link.{Link}
+use Rattle.std.proofs.lemmas.Bool.{cases_eq, and_parts}
+use Rattle.tableau_rules.specs.declared.edges.Edges.{Edges}
 use Rattle.tableau_elimination.specs.declared.cause.Cause.{Cause}
 use Rattle.tableau_elimination.specs.declared.cause.Cause.TheVariants.{Dead, Wait}
 use Rattle.tableau_rules.specs.Links.{Among, IsHead, kids_at}
 use Rattle.tableau_rules.specs.Levels.{HasLevels, Alive, can_go, alive_at, head_is, some_is, levelled_at, ComesTo}
 use Rattle.tableau_elimination.specs.Marks.{IsConnected, Gone, IsRight, cause_at, living, AreMarked, Leafless, waits, AreKilled, IsWaitedFor}
-use Rattle.tableau_rules.proofs.PlaceTests.{and_is, or_not, below_is, is_below, bool_of, no_both, head_none, some_none, each_at, head_among}
+use Rattle.tableau_rules.proofs.PlaceTests.{or_not, below_is, is_below, bool_of, no_both, head_none, some_none, each_at, head_among}
 use Rattle.tableau_elimination.proofs.MarkSteps.{living_set, living_most, right_kept, comes}
 
 pub waits_has : (carried : ℕ → Bool) (alive : List Bool) (levels : List ℕ) (m : ℕ) → waits carried alive levels m ≡ true → Alive alive m × (length levels ≤ get_or levels m 0) × (carried m ≡ true)
 waits_has carried alive levels m h =
-    let a = and_is (alive_at alive m) (not (nat_lt (get_or levels m 0) (length levels)) && carried m) h in
-    let b = and_is (not (nat_lt (get_or levels m 0) (length levels))) (carried m) a.1 in
+    let a = and_parts (alive_at alive m) (not (nat_lt (get_or levels m 0) (length levels)) && carried m) h in
+    let b = and_parts (not (nat_lt (get_or levels m 0) (length levels))) (carried m) a.1 in
     (a.0, above (get_or levels m 0) (length levels) b.0, b.1)
   where
     above : (x y : ℕ) → not (nat_lt x y) ≡ true → y ≤ x
@@ -28,7 +28,7 @@ pub not_alive : (carried : ℕ → Bool) (alive : List Bool) (levels : List ℕ)
 not_alive carried alive levels m a = rw a refl
 
 -- a node that cannot go fulfils in no kid that is alive, and no kid that is alive has a level
-pub stuck : (links : List Link) (fulfilling : ℕ → Bool) (alive : List Bool) (levels : List ℕ) (n : ℕ) → can_go links fulfilling alive levels n ≡ false → Alive alive n
+pub stuck : (links : List Edges) (fulfilling : ℕ → Bool) (alive : List Bool) (levels : List ℕ) (n : ℕ) → can_go links fulfilling alive levels n ≡ false → Alive alive n
     → (fulfilling n ≡ true → (k : ℕ) → IsHead k (kids_at links n) → Gone alive k) × ((k : ℕ) → Among k (kids_at links n) → Alive alive k → length links ≤ get_or levels k 0)
 stuck links fulfilling alive levels n h a =
     let f = fulfilling n && head_is (alive_at alive) (kids_at links n) in
@@ -45,7 +45,7 @@ stuck links fulfilling alive levels n h a =
     under : (x y : ℕ) → nat_lt x y ≡ false → y ≤ x
     under x y e = grind arith
 
-module _ (links : List Link) (carrying fulfilling : ℕ → ℕ → Bool) (e : ℕ) (levels : List ℕ) (old alive : List Bool) (old_ranks ranks : List ℕ) (old_causes causes : List Cause) (before left : ℕ)
+module _ (links : List Edges) (carrying fulfilling : ℕ → ℕ → Bool) (e : ℕ) (levels : List ℕ) (old alive : List Bool) (old_ranks ranks : List ℕ) (old_causes causes : List Cause) (before left : ℕ)
     (connected : IsConnected links carrying fulfilling) (marked : AreMarked links carrying fulfilling old old_ranks old_causes before) (leafless : Leafless links old) (h : HasLevels links (fulfilling e) old levels)
     (killed : AreKilled (carrying e) e levels old alive old_ranks ranks old_causes causes before left (length levels)) where
   inside : (m : ℕ) → m < length links → waits (carrying e) old levels m ≡ true → Gone alive m × (get_or ranks m 0 ≡ length links - before) × (cause_at causes m ≡ Wait e)

@@ -12,7 +12,7 @@ reason_by (Wait e) kids = wait e
 reason_by Dead [] = clash
 reason_by Dead (p ∷ ps) = dead
 
--- the node with its mark
+-- a node of the graph as one of the certificate, with the mark of its place
 abbrev pub cert_node_by : GraphNodeForm → ℕ → Cause → CertNodeForm
 cert_node_by g rank cause = record { node = g.node; kids = g.kids; rank = rank; reason = reason_by cause g.kids }
 

@@ -1,4 +1,3 @@
 pub mod Marks
 pub mod CertNodes
 pub mod Outcomes
-pub mod SmallGraphs

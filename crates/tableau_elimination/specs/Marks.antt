@@ -1,22 +1,22 @@
 -- Marks of the places of a graph, while more and more places go: when each went, and why.
 use Rattle.std.specs.Prelude.{get_or, ◌≡◌, ℕ, ◌+◌, ◌-◌, ◌<◌, ◌≤◌, ◌^◌, ◌⊎◌, List, [], ◌∷◌, length, Bool, true, false, ◌&&◌, nat_lt, nat_eq, cond, not}
 use Rattle.formula_table.specs.Closures.{closure_of}
-use Rattle.tableau_rules.specs.declared.link.Link.{Link}
-use Rattle.tableau_rules.specs.QuerySeen.{cores_in}
-use Rattle.tableau_rules.specs.GraphSeen.{graph_of}
+use Rattle.tableau_rules.specs.declared.edges.Edges.{Edges}
+use Rattle.tableau_rules.specs.QueryView.{cores_in}
+use Rattle.tableau_rules.specs.GraphView.{graph_of}
 use Rattle.tableau_rules.specs.Links.{Among, IsHead, kids_at, carries_at, fulfils_at, InRange, PlaceReached}
 use Rattle.tableau_rules.specs.Levels.{Alive, alive_at, ComesTo, IsSettled, PlacesSurvive}
-use Rattle.tableau_elimination.specs.declared.search.Search.{Search}
+use Rattle.tableau_elimination.specs.declared.linked_graph.LinkedGraph.{LinkedGraph}
 use Rattle.tableau_elimination.specs.declared.cause.Cause.{Cause}
 use Rattle.tableau_elimination.specs.declared.cause.Cause.TheVariants.{Dead, Wait}
 
 -- which untils of the query are carried at which places of the graph
-abbrev pub carrying_in : Search → ℕ → ℕ → Bool
-carrying_in search = carries_at (closure_of (cores_in search.query.now)) (graph_of search.graph.now)
+abbrev pub carrying_in : LinkedGraph → ℕ → ℕ → Bool
+carrying_in linked_graph = carries_at (closure_of (cores_in linked_graph.query.now)) (graph_of linked_graph.graph.now)
 
 -- what elimination needs of a graph: kids are places, each place is reached from the first, and an until that a place carries
 -- goes on into each kid but the one that fulfils it
-pub record IsConnected (links : List Link) (carrying fulfilling : ℕ → ℕ → Bool) : Type 0 where
+pub record IsConnected (links : List Edges) (carrying fulfilling : ℕ → ℕ → Bool) : Type 0 where
   pub some : 0 < length links
   pub in_range : InRange links
   pub reached : (k : ℕ) → k < length links → PlaceReached links k
@@ -24,12 +24,12 @@ pub record IsConnected (links : List Link) (carrying fulfilling : ℕ → ℕ �
       → (carrying e p ≡ true) ⊎ ((fulfilling e k ≡ true) × IsHead p (kids_at links k))
 
 -- a graph of fewer than 2^32 places, connected by its links, of which each node has one
-pub record IsReady (search : Search) : Type 0 where
-  pub few : length search.links.now < 2 ^ 32
-  pub size : length (graph_of search.graph.now) ≡ length search.links.now
-  pub connected : IsConnected search.links.now (carrying_in search) (fulfils_at search.links.now)
+pub record IsReady (linked_graph : LinkedGraph) : Type 0 where
+  pub few : length linked_graph.links.now < 2 ^ 32
+  pub size : length (graph_of linked_graph.graph.now) ≡ length linked_graph.links.now
+  pub connected : IsConnected linked_graph.links.now (carrying_in linked_graph) (fulfils_at linked_graph.links.now)
 
--- why the place is gone
+-- why the place is gone, if it is: a mark without meaning stands at a place that is alive
 abbrev pub cause_at : List Cause → ℕ → Cause
 cause_at causes k = get_or causes k Dead
 
@@ -38,11 +38,12 @@ abbrev pub Gone : List Bool → ℕ → Type 0
 Gone alive k = get_or alive k false ≡ false
 
 -- the place has a kid
-abbrev pub HasKid : List Link → ℕ → Type 0
+abbrev pub HasKid : List Edges → ℕ → Type 0
 HasKid links k = (p : ℕ) × Among p (kids_at links k)
 
--- the mark of a place is right: dead is also a place with no kids
-abbrev pub IsRight : List Link → (ℕ → ℕ → Bool) → (ℕ → ℕ → Bool) → List ℕ → List Cause → ℕ → Cause → Type 0
+-- the mark of a place is right: all its kids went before it, of which there may be none; or each went before it or waits with it for the until e,
+-- which the place carries, and a kid in which e is fulfilled went before it, since it may carry e again
+abbrev pub IsRight : List Edges → (ℕ → ℕ → Bool) → (ℕ → ℕ → Bool) → List ℕ → List Cause → ℕ → Cause → Type 0
 IsRight links carrying fulfilling ranks causes k Dead = (p : ℕ) → Among p (kids_at links k) → get_or ranks p 0 < get_or ranks k 0
 IsRight links carrying fulfilling ranks causes k (Wait e) =
     (carrying e k ≡ true) × HasKid links k
@@ -50,7 +51,7 @@ IsRight links carrying fulfilling ranks causes k (Wait e) =
     × (fulfilling e k ≡ true → (p : ℕ) → IsHead p (kids_at links k) → get_or ranks p 0 < get_or ranks k 0)
 
 -- what a place needs that waits for the until, besides what is said of all its kids
-pub record IsWaiting (links : List Link) (carrying fulfilling : ℕ → ℕ → Bool) (ranks : List ℕ) (e k : ℕ) : Type 0 where
+pub record IsWaiting (links : List Edges) (carrying fulfilling : ℕ → ℕ → Bool) (ranks : List ℕ) (e k : ℕ) : Type 0 where
   pub carries : carrying e k ≡ true
   pub has_kid : HasKid links k
   pub later : fulfilling e k ≡ true → (p : ℕ) → IsHead p (kids_at links k) → get_or ranks p 0 < get_or ranks k 0
@@ -69,7 +70,7 @@ abbrev pub is_apart : List ℕ → List Cause → ℕ → Cause → ℕ → Bool
 is_apart ranks causes rank cause p = is_late ranks rank p && not (nat_eq (get_or ranks p 0) rank && are_joined cause (cause_at causes p))
 
 -- all places are gone, each for a right cause
-pub record AreRight (links : List Link) (carrying fulfilling : ℕ → ℕ → Bool) (ranks : List ℕ) (causes : List Cause) : Type 0 where
+pub record AreRight (links : List Edges) (carrying fulfilling : ℕ → ℕ → Bool) (ranks : List ℕ) (causes : List Cause) : Type 0 where
   pub ranked : length ranks ≡ length links
   pub caused : length causes ≡ length links
   pub right : (k : ℕ) → k < length links → IsRight links carrying fulfilling ranks causes k (cause_at causes k)
@@ -80,7 +81,7 @@ living [] = 0
 living (x ∷ xs) = cond x 1 0 + living xs
 
 -- the places that are gone have right marks, with ranks that rise as fewer places are left
-pub record AreMarked (links : List Link) (carrying fulfilling : ℕ → ℕ → Bool) (alive : List Bool) (ranks : List ℕ) (causes : List Cause) (left : ℕ) : Type 0 where
+pub record AreMarked (links : List Edges) (carrying fulfilling : ℕ → ℕ → Bool) (alive : List Bool) (ranks : List ℕ) (causes : List Cause) (left : ℕ) : Type 0 where
   pub tested : length alive ≡ length links
   pub ranked : length ranks ≡ length links
   pub caused : length causes ≡ length links
@@ -90,7 +91,7 @@ pub record AreMarked (links : List Link) (carrying fulfilling : ℕ → ℕ → 
   pub right : (k : ℕ) → k < length links → Gone alive k → IsRight links carrying fulfilling ranks causes k (cause_at causes k)
 
 -- each living place has a kid
-abbrev pub Leafless : List Link → List Bool → Type 0
+abbrev pub Leafless : List Edges → List Bool → Type 0
 Leafless links alive = (k : ℕ) → k < length links → Alive alive k → HasKid links k
 
 -- whether the place is alive without a level, and carries the until
@@ -111,7 +112,7 @@ pub record AreKilled (carried : ℕ → Bool) (e : ℕ) (levels : List ℕ) (old
   pub same : left ≡ before → alive ≡ old
 
 -- after the places from the bound on were cleared
-pub record AreCleared (links : List Link) (carrying fulfilling : ℕ → ℕ → Bool) (old alive : List Bool) (ranks : List ℕ) (causes : List Cause) (before left bound : ℕ) : Type 0 where
+pub record AreCleared (links : List Edges) (carrying fulfilling : ℕ → ℕ → Bool) (old alive : List Bool) (ranks : List ℕ) (causes : List Cause) (before left bound : ℕ) : Type 0 where
   pub marked : AreMarked links carrying fulfilling alive ranks causes left
   pub less : left ≤ before
   pub same : left ≡ before → alive ≡ old
@@ -119,7 +120,7 @@ pub record AreCleared (links : List Link) (carrying fulfilling : ℕ → ℕ →
   pub leafless : (k : ℕ) → bound ≤ k → k < length links → Alive alive k → HasKid links k
 
 -- after the places that wait for the until are gone
-pub record IsWaitedFor (links : List Link) (carrying fulfilling : ℕ → ℕ → Bool) (e : ℕ) (old alive : List Bool) (ranks : List ℕ) (causes : List Cause) (before left : ℕ) : Type 0 where
+pub record IsWaitedFor (links : List Edges) (carrying fulfilling : ℕ → ℕ → Bool) (e : ℕ) (old alive : List Bool) (ranks : List ℕ) (causes : List Cause) (before left : ℕ) : Type 0 where
   pub marked : AreMarked links carrying fulfilling alive ranks causes left
   pub leafless : Leafless links alive
   pub less : left ≤ before
@@ -127,12 +128,12 @@ pub record IsWaitedFor (links : List Link) (carrying fulfilling : ℕ → ℕ �
   pub fair : left ≡ before → (k : ℕ) → k < length links → Alive alive k → carrying e k ≡ true → ComesTo links (fulfilling e) alive k
 
 -- after a round, which settles all where it kills none
-pub record IsRound (links : List Link) (carrying fulfilling : ℕ → ℕ → Bool) (alive : List Bool) (ranks : List ℕ) (causes : List Cause) (before left : ℕ) : Type 0 where
+pub record IsRound (links : List Edges) (carrying fulfilling : ℕ → ℕ → Bool) (alive : List Bool) (ranks : List ℕ) (causes : List Cause) (before left : ℕ) : Type 0 where
   pub marked : AreMarked links carrying fulfilling alive ranks causes left
   pub less : left ≤ before
   pub settled : left ≡ before → IsSettled links carrying fulfilling alive
 
 -- after the last round, whether or not the first place stays
-abbrev pub HasEnded : Bool → List Link → (ℕ → ℕ → Bool) → (ℕ → ℕ → Bool) → List Bool → List ℕ → List Cause → Type 0
+abbrev pub HasEnded : Bool → List Edges → (ℕ → ℕ → Bool) → (ℕ → ℕ → Bool) → List Bool → List ℕ → List Cause → Type 0
 HasEnded true links carrying fulfilling alive ranks causes = PlacesSurvive links carrying fulfilling alive
 HasEnded false links carrying fulfilling alive ranks causes = AreRight links carrying fulfilling ranks causes

@@ -2,7 +2,7 @@
 use Rattle.std.specs.Prelude.{ℕ, ◌≤◌, List, length}
 use Rattle.bound_unfolding.specs.CoreForm.{CoreForm}
 use Rattle.tableau_rules.specs.Certificates.{IsValid}
-use Rattle.tableau_rules.specs.CertSeen.{cert_of}
+use Rattle.tableau_rules.specs.CertView.{cert_of}
 use Rattle.tableau_rules.specs.Graphs.{GraphNodeForm}
 use Rattle.tableau_rules.specs.Surviving.{Survives}
 use Rattle.tableau_elimination.specs.declared.outcome.Outcome.{Outcome}

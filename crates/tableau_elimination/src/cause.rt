@@ -1,4 +1,5 @@
-//! Why a place is gone.
+//! The two causes for which places go. A place whose node clashes is dead without kids here; only
+//! the certificate tells the two apart.
 
 /// Why a place is gone.
 #[derive(Clone, Copy, Drop)]

@@ -1,9 +1,11 @@
-//! The certificate that the marks of a graph's places make, in the graph's own numbering.
+//! The certificate that the marks of a graph's places make, in the graph's own numbering: each node
+//! with its rank, and its cause as a reason. Nothing is looked for here, so right marks make a
+//! valid one.
 
 ghost use Rattle.std.specs.Prelude.{◌≡◌, IfOk, length};
-ghost use Rattle.tableau_rules.specs.NodeSeen.{node_of};
-ghost use Rattle.tableau_rules.specs.GraphSeen.{graph_node_of, graph_of};
-ghost use Rattle.tableau_rules.specs.CertSeen.{reason_of, cert_node_of, cert_of};
+ghost use Rattle.tableau_rules.specs.NodeView.{node_of};
+ghost use Rattle.tableau_rules.specs.GraphView.{graph_node_of, graph_of};
+ghost use Rattle.tableau_rules.specs.CertView.{reason_of, cert_node_of, cert_of};
 ghost use Rattle.tableau_elimination.specs.CertNodes.{reason_by, cert_node_by, IsCertOf};
 
 use crate::cause::Cause;

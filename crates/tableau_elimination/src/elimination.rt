@@ -1,34 +1,37 @@
-//! Elimination of a whole graph.
+//! Elimination of a whole graph, for whoever wants its verdict: marks that a walk proposes are
+//! taken where they are right, rounds go on from there, and what is left is a certificate or a
+//! surviving set. The walk may be changed freely; what is answered rests on right.rt and the rounds
+//! alone.
 
 ghost use Rattle.std.specs.Prelude.{ℕ, ◌<◌, ◌^◌, List, length, IfOk};
-ghost use Rattle.tableau_rules.specs.QuerySeen.{cores_in};
-ghost use Rattle.tableau_rules.specs.GraphSeen.{graph_of};
+ghost use Rattle.tableau_rules.specs.QueryView.{cores_in};
+ghost use Rattle.tableau_rules.specs.GraphView.{graph_of};
 ghost use Rattle.tableau_rules.specs.Graphs.{IsWhole};
 ghost use Rattle.tableau_rules.specs.Links.{fulfils_at};
 ghost use Rattle.tableau_elimination.specs.Marks.{carrying_in, IsReady, AreMarked};
 ghost use Rattle.tableau_elimination.specs.Outcomes.{IsOutcome};
 
 use crate::certify::certificate;
+use crate::linked_graph::LinkedGraph;
 use crate::marks::{Marks, unmarked};
 use crate::outcome::Outcome;
 use crate::right::are_right;
 use crate::round::rounds;
-use crate::search::Search;
 use crate::walk::proposed;
 use source_sink::Memory;
 use std::alloc::Global;
 use tableau_rules::{Graph, Query, links_of};
 
 // The marks to begin with: those that a walk proposes, where they are right, and else none.
-fn first_marks(alloc: Global, search: &Search<'_>) -> Result<Marks, Memory>
-    requires ready { IsReady search.now }
-    ensures { IfOk result (λ m. AreMarked search.now.links.now (carrying_in search.now) (fulfils_at search.now.links.now) m.alive.items m.ranks.items m.causes.items m.left) }
+fn first_marks(alloc: Global, linked_graph: &LinkedGraph<'_>) -> Result<Marks, Memory>
+    requires ready { IsReady linked_graph.now }
+    ensures { IfOk result (λ m. AreMarked linked_graph.now.links.now (carrying_in linked_graph.now) (fulfils_at linked_graph.now.links.now) m.alive.items m.ranks.items m.causes.items m.left) }
 {
-    let marks = proposed(alloc, search)?;
-    if are_right(search, &marks) {
+    let marks = proposed(alloc, linked_graph)?;
+    if are_right(linked_graph, &marks) {
         Ok(marks)
     } else {
-        unmarked(alloc, search.links.len() as u32)
+        unmarked(alloc, linked_graph.links.len() as u32)
     }
 }
 
@@ -41,16 +44,16 @@ pub fn eliminate(alloc: Global, query: &Query, graph: &Graph) -> Result<Outcome,
     ensures { (sizes : List ℕ) → IsWhole sizes (cores_in query.now) (graph_of graph.now) → IfOk result (IsOutcome sizes (cores_in query.now) (graph_of graph.now)) }
 {
     let links = links_of(alloc, query, graph)?;
-    let search = Search {
+    let linked_graph = LinkedGraph {
         query,
         graph,
         links: &links,
     };
-    let marks = first_marks(alloc, &search)?;
+    let marks = first_marks(alloc, &linked_graph)?;
     let (mut alive, mut ranks, mut causes) = (marks.alive, marks.ranks, marks.causes);
     if rounds(
         alloc,
-        &search,
+        &linked_graph,
         &mut alive,
         &mut ranks,
         &mut causes,

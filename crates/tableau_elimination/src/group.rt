@@ -3,13 +3,13 @@
 
 ghost use Rattle.std.specs.Prelude.{◌<◌, length};
 ghost use Rattle.formula_table.specs.Closures.{closure_of};
-ghost use Rattle.tableau_rules.specs.QuerySeen.{cores_in};
+ghost use Rattle.tableau_rules.specs.QueryView.{cores_in};
 
 use crate::cause::Cause;
+use crate::linked_graph::LinkedGraph;
 use crate::marks::Marks;
 use crate::place::{is_alive, is_head_alive, is_some_alive, kids_at};
-use crate::search::Search;
-use tableau_rules::{Kids, Link, does_carry, does_fulfil};
+use tableau_rules::{Edges, Kids, does_carry, does_fulfil};
 
 /// What stands in the list of lows for a place whose group is judged.
 pub(crate) const JUDGED: u32 = u32::MAX;
@@ -20,7 +20,7 @@ fn is_way_out(lows: &[u32], alive: &[bool], place: u32) -> bool {
 }
 
 // Whether a member of the group leads to a living place outside it.
-fn has_way_out(links: &[Link], group: &[u32], lows: &[u32], alive: &[bool]) -> bool {
+fn has_way_out(links: &[Edges], group: &[u32], lows: &[u32], alive: &[bool]) -> bool {
     'group: for &place in group {
         let leads_out = match kids_at(links, place) {
             Kids::Leaf => false,
@@ -35,7 +35,7 @@ fn has_way_out(links: &[Link], group: &[u32], lows: &[u32], alive: &[bool]) -> b
 }
 
 // Whether a member of the group fulfils the until in a living kid.
-fn is_fulfilled(links: &[Link], until: u16, group: &[u32], alive: &[bool]) -> bool {
+fn is_fulfilled(links: &[Edges], until: u16, group: &[u32], alive: &[bool]) -> bool {
     'group: for &place in group {
         if does_fulfil(links, until, place as usize)
             && is_head_alive(kids_at(links, place), alive)
@@ -46,37 +46,44 @@ fn is_fulfilled(links: &[Link], until: u16, group: &[u32], alive: &[bool]) -> bo
     false
 }
 
-// Whether the formula is an until that the first of the group carries, and no member fulfils.
-fn is_put_off(search: &Search<'_>, formula: u16, group: &[u32], alive: &[bool]) -> bool
-    requires formula { formula < length (closure_of (cores_in search.now.query.now)) }
+// Whether the formula is an until that the first of the group carries, and no member fulfils. The
+// first stands for all: an until that is not fulfilled goes on into each kid.
+fn is_put_off(linked_graph: &LinkedGraph<'_>, formula: u16, group: &[u32], alive: &[bool]) -> bool
+    requires formula { formula < length (closure_of (cores_in linked_graph.now.query.now)) }
 {
     match group.first() {
         Some(&first) => {
-            search.query.is_until(formula)
-                && (first as usize) < search.graph.nodes.len()
-                && does_carry(search.query, search.graph, formula, first as usize)
-                && !is_fulfilled(search.links, formula, group, alive)
+            linked_graph.query.is_until(formula)
+                && (first as usize) < linked_graph.graph.nodes.len()
+                && does_carry(
+                    linked_graph.query,
+                    linked_graph.graph,
+                    formula,
+                    first as usize,
+                )
+                && !is_fulfilled(linked_graph.links, formula, group, alive)
         }
         None => false,
     }
 }
 
-/// Why the group goes, if it does.
+/// Why the group goes, if it does. Its members are alive until it is condemned, so that a first one
+/// without a living kid is alone in it, and no kid of itself.
 pub(crate) fn cause_of(
-    search: &Search<'_>,
+    linked_graph: &LinkedGraph<'_>,
     group: &[u32],
     lows: &[u32],
     alive: &[bool],
 ) -> Option<Cause> {
-    if has_way_out(search.links, group, lows, alive) {
+    if has_way_out(linked_graph.links, group, lows, alive) {
         return None;
     }
     let first = *group.first()?;
-    if !is_some_alive(kids_at(search.links, first), alive) {
+    if !is_some_alive(kids_at(linked_graph.links, first), alive) {
         return Some(Cause::Dead);
     }
-    'formulas: for formula in 0..search.query.len() {
-        if is_put_off(search, formula, group, alive) {
+    'formulas: for formula in 0..linked_graph.query.len() {
+        if is_put_off(linked_graph, formula, group, alive) {
             return Some(Cause::Wait(formula));
         }
     }

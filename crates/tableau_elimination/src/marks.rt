@@ -1,7 +1,9 @@
-//! The marks of a graph's places: which are alive, and of the others when each went and why.
+//! The marks of a graph's places: which are alive, and of the others when each went and why. Marks
+//! of rounds are right at any time; those that a walk proposes are so only once right.rt has passed
+//! them.
 
 ghost use Rattle.std.specs.Prelude.{◌≡◌, ◌<◌, ◌^◌, ℕ, Bool, List, length, IfOk};
-ghost use Rattle.tableau_rules.specs.declared.link.Link.{Link as LinkSeen};
+ghost use Rattle.tableau_rules.specs.declared.edges.Edges.{Edges as EdgesView};
 ghost use Rattle.tableau_elimination.specs.Marks.{AreMarked};
 
 use crate::cause::Cause;
@@ -23,7 +25,7 @@ pub(crate) struct Marks {
 
 /// The marks of so many places, all of which are alive.
 pub(crate) fn unmarked(alloc: Global, count: u32) -> Result<Marks, Memory>
-    ensures { (links : List LinkSeen) (carrying fulfilling : ℕ → ℕ → Bool) → length links ≡ count
+    ensures { (links : List EdgesView) (carrying fulfilling : ℕ → ℕ → Bool) → length links ≡ count
         → IfOk result (λ m. AreMarked links carrying fulfilling m.alive.items m.ranks.items m.causes.items m.left) }
 {
     Ok(Marks {

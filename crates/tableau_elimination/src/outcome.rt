@@ -1,4 +1,5 @@
-//! What an elimination answers.
+//! What an elimination answers: the root is gone or stays, each with enough to show it to somebody
+//! who did not look on.
 
 use tableau_rules::Cert;
 

@@ -1,13 +1,14 @@
-//! A place and its kids.
+//! A place and its kids, as the searches ask for them. A place past the last has no kid and is not
+//! alive, so that the walk, which proves nothing of its places, can ask for any.
 
 ghost use Rattle.std.specs.Prelude.{◌≡◌};
 ghost use Rattle.tableau_rules.specs.Links.{kids_of, kids_at};
 ghost use Rattle.tableau_rules.specs.Levels.{head_is, some_is, alive_at};
 
-use tableau_rules::{Kids, Link};
+use tableau_rules::{Edges, Kids};
 
 /// The kids of a place. A place past the last has none.
-pub(crate) fn kids_at(links: &[Link], place: u32) -> Kids
+pub(crate) fn kids_at(links: &[Edges], place: u32) -> Kids
     ensures { kids_of result ≡ kids_at links.now place }
 {
     match links.get(place as usize) {

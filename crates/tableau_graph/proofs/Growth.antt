@@ -10,7 +10,7 @@ use Rattle.bound_unfolding.specs.CoreForm.{CoreForm}
 use Rattle.formula_table.specs.Closures.{closure_of}
 use Rattle.tableau_rules.specs.declared.node.Node.{Node}
 use Rattle.tableau_rules.specs.Nodes.{NodeForm}
-use Rattle.tableau_rules.specs.NodeSeen.{node_of, AreNumbersBelow}
+use Rattle.tableau_rules.specs.NodeView.{node_of, AreNumbersBelow}
 use Rattle.tableau_rules.specs.Graphs.{IsReached, kid, AreReached}
 use Rattle.tableau_rules.proofs.QueryNodes.{reached_of_query}
 use Rattle.tableau_rules.proofs.Sizes.{other_default, contains_got}

@@ -6,9 +6,9 @@ use Rattle.smallvec.specs.SmallVec.{SmallVec}
 use Rattle.tableau_rules.specs.declared.node.Node.{Node}
 use Rattle.tableau_rules.specs.declared.graph.GraphNode.{GraphNode}
 use Rattle.tableau_rules.specs.Nodes.{NodeForm}
-use Rattle.tableau_rules.specs.NodeSeen.{node_of}
+use Rattle.tableau_rules.specs.NodeView.{node_of}
 use Rattle.tableau_rules.specs.Graphs.{GraphNodeForm}
-use Rattle.tableau_rules.specs.GraphSeen.{graph_node_of}
+use Rattle.tableau_rules.specs.GraphView.{graph_node_of}
 use Rattle.tableau_rules.proofs.Sizes.{map_length}
 use Rattle.tableau_graph.specs.Joined.{places_of, rows_in, join}
 

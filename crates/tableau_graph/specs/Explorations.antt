@@ -2,7 +2,7 @@
 use Rattle.std.specs.Prelude.{◌≡◌, ℕ, ◌≤◌, List, length}
 use Rattle.bound_unfolding.specs.CoreForm.{CoreForm}
 use Rattle.tableau_rules.specs.Graphs.{IsLarger, IsWhole}
-use Rattle.tableau_rules.specs.GraphSeen.{graph_of}
+use Rattle.tableau_rules.specs.GraphView.{graph_of}
 use Rattle.tableau_graph.specs.declared.exploration.Explored.{Explored}
 use Rattle.tableau_graph.specs.declared.exploration.Explored.TheVariants.{Over, Whole}
 

@@ -4,10 +4,11 @@ use Rattle.smallvec.specs.SmallVec.{SmallVec}
 use Rattle.tableau_rules.specs.Nodes.{NodeForm}
 use Rattle.tableau_rules.specs.Graphs.{GraphNodeForm}
 
--- the places of a row
+-- the places of one row, which are those of a node's kids
 abbrev pub places_of : SmallVec ℕ → List ℕ
 places_of row = row.items
 
+-- the places of all rows, one row for a node
 abbrev pub rows_in : List (SmallVec ℕ) → List (List ℕ)
 rows_in rows = map places_of rows
 

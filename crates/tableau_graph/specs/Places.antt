@@ -17,7 +17,7 @@ pub record AreWithin (sizes : List ℕ) (cores : List CoreForm) (budget : ℕ) (
   pub are : AreReached sizes cores nodes
   pub few : length nodes ≤ budget
 
--- what has a place keeps it
+-- each node keeps its place
 pub record Keeps (old new : List NodeForm) : Type 0 where
   pub keeps : (k : ℕ) (n : NodeForm) → slice_get old k ≡ Some n → slice_get new k ≡ Some n
 
@@ -25,7 +25,7 @@ pub record Keeps (old new : List NodeForm) : Type 0 where
 abbrev pub PlacesHave : List NodeForm → List ℕ → List NodeForm → Type 0
 PlacesHave nodes places ns = AllZip (λ place n. slice_get nodes place ≡ Some n) places ns
 
--- nothing where the node is there, else the node at the end
+-- the node is there already and nothing changes, or it comes at the end
 abbrev pub IsPut : List NodeForm → List NodeForm → NodeForm → Type 0
 IsPut old new n = (new ≡ old) ⊎ ((new ≡ old ++ n ∷ []) × ¬ (Contains old n))
 
@@ -34,12 +34,13 @@ abbrev pub IsPlaced : ℕ → List NodeForm → List NodeForm → NodeForm → O
 IsPlaced budget old new n None = IsPut old new n × (budget < length new)
 IsPlaced budget old new n (Some place) = IsPut old new n × (length new ≤ budget) × (slice_get new place ≡ Some n)
 
--- the place of the kid of this number of the node at a place
+-- the place of the kid of this number, from 0, of the node at a place
 pub record HasKid (sizes : List ℕ) (cores : List CoreForm) (budget : ℕ) (old new : List NodeForm) (at which place : ℕ) : Type 0 where
   pub within : AreWithin sizes cores budget new
   pub keeps : Keeps old new
   pub kid : (n : NodeForm) → slice_get old at ≡ Some n → (m : NodeForm) × (slice_get (kids_in sizes cores n) which ≡ Some m) × (slice_get new place ≡ Some m)
 
+-- where a place is answered it is that of the kid, and where none is, the tableau is over the budget
 abbrev pub IsKidPlace : List ℕ → List CoreForm → ℕ → List NodeForm → List NodeForm → ℕ → ℕ → Option ℕ → Type 0
 IsKidPlace sizes cores budget old new at which None = IsLarger sizes cores budget
 IsKidPlace sizes cores budget old new at which (Some place) = HasKid sizes cores budget old new at which place
@@ -50,6 +51,7 @@ pub record HasKids (sizes : List ℕ) (cores : List CoreForm) (budget : ℕ) (ol
   pub keeps : Keeps old new
   pub kids : (n : NodeForm) → slice_get old at ≡ Some n → PlacesHave new places (kids_in sizes cores n)
 
+-- where a row is answered it has the places of all kids, and where none is, the tableau is over the budget
 abbrev pub IsRow : List ℕ → List CoreForm → ℕ → List NodeForm → List NodeForm → ℕ → Option (SmallVec ℕ) → Type 0
 IsRow sizes cores budget old new at None = IsLarger sizes cores budget
 IsRow sizes cores budget old new at (Some row) = HasKids sizes cores budget old new at row.items

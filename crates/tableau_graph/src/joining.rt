@@ -1,8 +1,9 @@
-//! Nodes and the places of their kids, moved into one list.
+//! Nodes and the places of their kids, moved into one list: at the end of an exploration no node is
+//! copied, however many there are.
 
 ghost use Rattle.std.specs.Prelude.{◌≡◌, ◌<◌, [], ◌∷◌, ◌++◌, length, map, IfOk};
-ghost use Rattle.tableau_rules.specs.NodeSeen.{node_of};
-ghost use Rattle.tableau_rules.specs.GraphSeen.{graph_node_of};
+ghost use Rattle.tableau_rules.specs.NodeView.{node_of};
+ghost use Rattle.tableau_rules.specs.GraphView.{graph_node_of};
 ghost use Rattle.tableau_graph.specs.Joined.{join, rows_in};
 
 use indexmap::IndexSet;

@@ -6,6 +6,3 @@ mod exploration;
 mod joining;
 
 pub use exploration::{Explored, explore};
-
-#[cfg(test)]
-mod tests;

@@ -4,7 +4,8 @@ use Rattle.std.specs.List.Sorted.{IsStrictlyIncreasing}
 use Rattle.std.proofs.Common.{◌≡◌, ℕ, zero, suc, ◌+◌, ◌<◌, Bool, true, false, List, [], ◌∷◌, IsTrue, ◌==◌, ◌||◌, ◌&&◌, not, Option, Some, None, nat_lt, get_or, refl, inl, inr, sym, ap, ap₂, ◌∙◌, subst, true≢false, arith}
 use Rattle.tableau_rules.specs.Sets.{has_number, with_number, without_number, with_option, without_option}
 use Rattle.tableau_rules.specs.Words.{is_given}
-use Rattle.tableau_rules.proofs.Lists.{cond_case, or_left, or_right, or_true, eq_of, eq_to, eq_self, each_map}
+use Rattle.formula_table.proofs.Tests.{cond_case, or_left, or_right, or_true, eq_of, eq_to, eq_self}
+use Rattle.tableau_rules.proofs.Lists.{each_map}
 use Rattle.tableau_rules.proofs.NumberSets.{each_has, each_with, each_without}
 
 abbrev pub IsAscending : List ℕ → Type 0

@@ -9,7 +9,8 @@ use Rattle.state_space.specs.Members.{full_of}
 use Rattle.tableau_rules.specs.Nodes.{NodeForm, carries, first_best, chosen, has_empty, todo_rule, node_rule, kid, kids_by, kids}
 use Rattle.tableau_rules.specs.Certificates.{is_until}
 use Rattle.tableau_rules.specs.Walks.{FulfilsIn}
-use Rattle.tableau_rules.proofs.Lists.{AnyOf, FirstOf, cond_case, bool_cases, or_left, or_right, or_true, eq_of, eq_to, any_at, some_const, some_source}
+use Rattle.formula_table.proofs.Tests.{cond_case, bool_cases, or_left, or_right, or_true, eq_of, eq_to}
+use Rattle.tableau_rules.proofs.Lists.{AnyOf, FirstOf, any_at, some_const, some_source}
 use Rattle.tableau_rules.proofs.NumberSets.{has_with, has_without, has_with_cores_more}
 use Rattle.tableau_rules.proofs.RuleParts.{no_step}
 use Rattle.tableau_rules.proofs.KidMeetings.{mk}

@@ -13,9 +13,10 @@ use Rattle.tableau_rules.specs.Sets.{has_number, without_number}
 use Rattle.tableau_rules.specs.Rules.{adds, Rule, clash, changes, fulfils, decided_true, decided_false, rule_of}
 use Rattle.tableau_rules.specs.Nodes.{NodeForm, first_best, chosen, has_empty, met_with, met_with_all, todo_rule, kid, kids_by, kids}
 use Rattle.tableau_rules.specs.Walks.{no_node, node_at, Settles, least_index, states}
-use Rattle.tableau_rules.proofs.Lists.{AnyOf, FirstOf, cond_case, some_source, some_const}
+use Rattle.formula_table.proofs.Tests.{cond_case}
+use Rattle.tableau_rules.proofs.Lists.{AnyOf, FirstOf, some_source, some_const}
 use Rattle.tableau_rules.proofs.NumberSets.{has_first_best, has_with}
-use Rattle.tableau_rules.proofs.IndexSets.{LieIn, lie_of_met_all, length-met_with}
+use Rattle.tableau_rules.proofs.IndexSets.{LieIn, lie_of_met_all, length-met_with, length-met_with_all}
 use Rattle.tableau_rules.proofs.RuleParts.{no_step, LiteralBelow, IsClosed}
 use Rattle.tableau_rules.proofs.KidMeetings.{mk}
 use Rattle.tableau_rules.proofs.NodeRules.{kids_by_changes}
@@ -98,10 +99,6 @@ small_met (suc x) set (a ∷ now) h = (h.0, small_met x set now h.1)
 small_met_all : (ms : List (ℕ × ℕ)) (now : List ℕ) → AreSmall now → AreSmall (met_with_all ms now)
 small_met_all [] now h = h
 small_met_all (m ∷ ms) now h = small_met_all ms (met_with m.0 m.1 now) (small_met m.0 m.1 now h)
-
-length-met_with_all : (ms : List (ℕ × ℕ)) (now : List ℕ) → length (met_with_all ms now) ≡ length now
-length-met_with_all [] now = refl
-length-met_with_all (m ∷ ms) now = length-met_with_all ms (met_with m.0 m.1 now) ∙ length-met_with m.0 m.1 now
 
 -- ---- a walk by turns, where each variable of a literal has a set
 pub record Turns (closure : List CoreForm) (full : List ℕ) (node : ℕ → NodeForm) : Type 0 where

@@ -1,39 +1,17 @@
 -- The closure of a query: operands of its formulas are in it, no formula stands in it twice, and its formulas are over the query's variables.
-use Rattle.std.proofs.Common.{◌≡◌, ℕ, zero, suc, Bool, true, false, List, [], ◌∷◌, ◌++◌, ◌==◌, IsTrue, cond, refl, inl, inr, sym, ap, ap₂, subst, ◌∙◌, true≢false, length}
+use Rattle.std.proofs.Common.{◌≡◌, ◌<◌, arith, ℕ, zero, suc, Bool, true, false, List, [], ◌∷◌, ◌++◌, ◌==◌, IsTrue, cond, refl, inl, inr, sym, ap, ap₂, subst, ◌∙◌, true≢false, length}
 use Rattle.std.specs.List.{list_any, AllByRecursion as Each}
 use Rattle.bound_unfolding.specs.CoreForm.{CoreForm, core_true, core_false, lit, both, either, after, core_until, core_release}
 use Rattle.formula_table.specs.Closures.{is_same, formula_at, number_in, with_formula, with_core, with_cores, closure_of, operands}
+use Rattle.formula_table.specs.Distinct.{IsMember, IsDistinct}
+use Rattle.formula_table.proofs.Members.{same_eq, same_self, distinct_last}
 use Rattle.tableau_rules.specs.Certificates.{is_until}
 use Rattle.tableau_rules.specs.Queries.{IsOver}
-use Rattle.tableau_rules.proofs.Lists.{cond_case, or_left, or_right, or_true, and_intro, and_true, eq_of, eq_self, each_map}
+use Rattle.formula_table.proofs.Tests.{cond_case, or_left, or_right, or_true, and_intro, and_true, eq_of, eq_self}
+use Rattle.tableau_rules.proofs.Lists.{each_map}
 use Rattle.tableau_rules.proofs.RuleParts.{LiteralBelow, IsKnown, IsClosed}
 
--- ---- equal cores
-pub same_eq : (a b : CoreForm) → IsTrue (is_same a b) → a ≡ b
-same_eq core_true core_true h = refl
-same_eq core_false core_false h = refl
-same_eq (lit x s) (lit y u) h = let r = and_true (x == y) _ h in ap₂ lit (eq_of x y r.0) (eq_of s u r.1)
-same_eq (both a b) (both c d) h = let r = and_true (is_same a c) _ h in ap₂ both (same_eq a c r.0) (same_eq b d r.1)
-same_eq (either a b) (either c d) h = let r = and_true (is_same a c) _ h in ap₂ either (same_eq a c r.0) (same_eq b d r.1)
-same_eq (after a) (after c) h = ap after (same_eq a c h)
-same_eq (core_until a b) (core_until c d) h = let r = and_true (is_same a c) _ h in ap₂ core_until (same_eq a c r.0) (same_eq b d r.1)
-same_eq (core_release a b) (core_release c d) h = let r = and_true (is_same a c) _ h in ap₂ core_release (same_eq a c r.0) (same_eq b d r.1)
-same_eq _ _ h = absurd (true≢false (sym h))
-
-pub same_self : (a : CoreForm) → IsTrue (is_same a a)
-same_self core_true = refl
-same_self core_false = refl
-same_self (lit x s) = and_intro (x == x) _ (eq_self x) (eq_self s)
-same_self (both a b) = and_intro (is_same a a) _ (same_self a) (same_self b)
-same_self (either a b) = and_intro (is_same a a) _ (same_self a) (same_self b)
-same_self (after a) = same_self a
-same_self (core_until a b) = and_intro (is_same a a) _ (same_self a) (same_self b)
-same_self (core_release a b) = and_intro (is_same a a) _ (same_self a) (same_self b)
-
 -- ---- members
-abbrev pub IsMember : List CoreForm → CoreForm → Type 0
-IsMember closure c = IsTrue (list_any (is_same c) closure)
-
 pub member_known : (closure : List CoreForm) (c : CoreForm) → IsMember closure c → IsKnown closure c
 member_known [] c h = absurd (true≢false (sym h))
 member_known (d ∷ ds) c h =
@@ -106,27 +84,9 @@ module _ (P : CoreForm → Type 0) (none : P core_false) where
     in_closure cs = at_cores cs [] (λ f. none)
 
 -- ---- no formula twice
-abbrev pub Once : List CoreForm → Type 0
-Once [] = Unit {0}
-Once (c ∷ cs) = ¬ (IsMember cs c) × Once cs
-
-once_last : (closure : List CoreForm) (c : CoreForm) → ¬ (IsMember closure c) → Once closure → Once (closure ++ c ∷ [])
-once_last [] c ne o = ((λ h. true≢false (sym h)), tt)
-once_last (d ∷ ds) c ne o = ((λ h. go ds h o.0), once_last ds c (λ m. ne (or_right (is_same c d) _ m)) o.1)
-  where
-    go : (ds : List CoreForm) → IsMember (ds ++ c ∷ []) d → ¬ (IsMember ds d) → ⊥
-    go [] h k = elim (or_true (is_same d c) _ h) [
-      | inl e ↦ ne (or_left (is_same c d) _ (subst (λ z. IsTrue (is_same c z)) (sym (same_eq d c e)) (same_self c)))
-      | inr m ↦ true≢false (sym m)
-    ]
-    go (x ∷ xs) h k = elim (or_true (is_same d x) _ h) [
-      | inl e ↦ k (or_left (is_same d x) _ e)
-      | inr m ↦ go xs m (λ z. k (or_right (is_same d x) _ z))
-    ]
-
 pub record IsFine (closure : List CoreForm) : Type 0 where
   pub operands_in : (f : ℕ) → Each (IsMember closure) (operands (formula_at closure f))
-  pub once : Once closure
+  pub once : IsDistinct closure
 
 pub fine_with : (closure : List CoreForm) (c : CoreForm) → IsFine closure → Each (IsMember closure) (operands c) → IsFine (with_formula c closure)
 fine_with closure c f h = go (list_any (is_same c) closure) refl
@@ -138,7 +98,7 @@ fine_with closure c f h = go (list_any (is_same c) closure) refl
           let at_n = formula_at (closure ++ c ∷ []) n in
           each_map (IsMember closure) (IsMember (closure ++ c ∷ [])) (operands at_n) (member_more closure c)
           (at_last (λ x. Each (IsMember closure) (operands x)) tt closure c n (f.operands_in n) h);
-      once = once_last closure c (λ m. true≢false (sym m ∙ e)) f.once;
+      once = distinct_last closure c (λ m. true≢false (sym m ∙ e)) f.once;
     }
 
 -- what a core does to a closure
@@ -205,6 +165,12 @@ module _ (cores : List CoreForm) where
   pub cores_known : Each (IsKnown closure) cores
   cores_known = each_map (IsMember closure) (IsKnown closure) cores (member_known closure) (closure_grows cores).all
 
+-- an until of a closure stands in it
+pub until_below : (closure : List CoreForm) (e : ℕ) → IsTrue (is_until (formula_at closure e)) → e < length closure
+until_below [] e h = absurd (true≢false (sym h))
+until_below (c ∷ cs) zero h = omega arith
+until_below (c ∷ cs) (suc e) h = let r = until_below cs e h in omega (arith, r)
+
 -- an until has the number at which it stands
 abbrev pub HasNumbers : List CoreForm → Type 0
 HasNumbers closure = (e : ℕ) → IsTrue (is_until (formula_at closure e)) → number_in closure (formula_at closure e) ≡ e
@@ -214,7 +180,7 @@ member_at [] e h = absurd (true≢false (sym h))
 member_at (d ∷ ds) zero h = or_left (is_same d d) _ (same_self d)
 member_at (d ∷ ds) (suc e) h = or_right (is_same (formula_at ds e) d) _ (member_at ds e h)
 
-number_at : (closure : List CoreForm) → Once closure → HasNumbers closure
+number_at : (closure : List CoreForm) → IsDistinct closure → HasNumbers closure
 number_at [] o e h = absurd (true≢false (sym h))
 number_at (d ∷ ds) o zero h =
     cond_case (λ p. p ≡ 0) (is_same d d) _ _ (λ _. refl) (λ f. absurd (true≢false (sym (same_self d) ∙ f)))

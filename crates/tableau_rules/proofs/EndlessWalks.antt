@@ -7,7 +7,8 @@ use Rattle.formula_table.specs.Closures.{formula_at, number_in, operands}
 use Rattle.tableau_rules.specs.Sets.{has_number, with_number, without_number}
 use Rattle.tableau_rules.specs.Rules.{Change, adds, waits, Rule, changes, decided_true, decided_false, rule_of}
 use Rattle.tableau_rules.specs.Nodes.{NodeForm, carries, chosen, kid, stepped}
-use Rattle.tableau_rules.proofs.Lists.{AnyOf, cond_case, bool_cases, or_left, or_right, eq_of, eq_to, each_map, each_both, some_map, some_both, some_const}
+use Rattle.formula_table.proofs.Tests.{cond_case, bool_cases, or_left, or_right, eq_of, eq_to}
+use Rattle.tableau_rules.proofs.Lists.{AnyOf, each_map, each_both, some_map, some_both, some_const}
 use Rattle.tableau_rules.proofs.NumberSets.{has_with, has_with_more, has_without, has_with_cores_more, each_put_in}
 use Rattle.tableau_rules.proofs.IndexSets.{LieIn, AreBelow, lie_of_met_all}
 use Rattle.tableau_rules.proofs.Positions.{until_here, until_later}

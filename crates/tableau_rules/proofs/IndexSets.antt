@@ -1,5 +1,5 @@
 -- When the indexes of a state lie in sets, one for each variable, and how that changes where the sets are met with others.
-use Rattle.std.proofs.Common.{◌≡◌, ℕ, zero, suc, ◌-◌, ◌^◌, ◌<◌, List, [], ◌∷◌, ◌==◌, IsTrue, bit_and, refl, arith, inl, inr, sym, ap, subst, true≢false, length}
+use Rattle.std.proofs.Common.{◌∙◌, ◌≡◌, ℕ, zero, suc, ◌-◌, ◌^◌, ◌<◌, List, [], ◌∷◌, ◌==◌, IsTrue, bit_and, refl, arith, inl, inr, sym, ap, subst, true≢false, length}
 use Rattle.std.specs.Prelude.{slice_index}
 use Rattle.std.specs.Int.{bit_at}
 use Rattle.std.specs.List.{AllByRecursion as Each}
@@ -11,7 +11,8 @@ use Rattle.tableau_rules.specs.Rules.{inside, apart}
 use Rattle.state_space.specs.Members.{full_of}
 use Rattle.tableau_rules.specs.Nodes.{has_empty, met_with, met_with_all}
 use Rattle.tableau_rules.specs.Meeting.{IndexesLie}
-use Rattle.tableau_rules.proofs.Lists.{or_true, eq_of, each_map}
+use Rattle.formula_table.proofs.Tests.{or_true, eq_of}
+use Rattle.tableau_rules.proofs.Lists.{each_map}
 
 -- by recursion on the variables
 abbrev pub LieIn : (ℕ → ℕ) → List ℕ → Type 0
@@ -75,6 +76,10 @@ pub length-met_with : (x set : ℕ) (now : List ℕ) → length (met_with x set 
 length-met_with x set [] = refl
 length-met_with zero set (a ∷ now) = refl
 length-met_with (suc x) set (a ∷ now) = ap suc (length-met_with x set now)
+
+pub length-met_with_all : (ms : List (ℕ × ℕ)) (now : List ℕ) → length (met_with_all ms now) ≡ length now
+length-met_with_all [] now = refl
+length-met_with_all (m ∷ ms) now = length-met_with_all ms (met_with m.0 m.1 now) ∙ length-met_with m.0 m.1 now
 
 -- the index is in each of the sets
 abbrev pub AreIn : (ℕ → ℕ) → List (ℕ × ℕ) → Type 0

@@ -3,6 +3,7 @@ use Rattle.std.proofs.Common.{◌≡◌, ◌≢◌, ◌↔◌, ℕ, zero, suc, �
 use Rattle.bound_unfolding.specs.CoreForm.{CoreForm}
 use Rattle.formula_table.specs.Closures.{is_same, formula_at, number_in}
 use Rattle.formula_table.specs.Distinct.{IsMember, IsDistinct}
+use Rattle.formula_table.proofs.Members.{same_eq, same_self, member_at}
 use Rattle.tableau_rules.specs.declared.effect.Effect.{Effect}
 use Rattle.tableau_rules.specs.declared.effect.Effect.TheVariants.{Nothing, Adds, AddsBoth, Waits, Later, Meets}
 use Rattle.tableau_rules.specs.declared.effect.Turn.{Turn}
@@ -10,17 +11,11 @@ use Rattle.tableau_rules.specs.declared.effect.Turn.TheVariants.{Clash, Step, On
 use Rattle.tableau_rules.specs.Sets.{with_number, without_number}
 use Rattle.tableau_rules.specs.Turns.{change_of, rule_in, effects_of, EffectBelow, TurnBelow}
 use Rattle.tableau_rules.specs.Nodes.{NodeForm, chosen, node_rule, kid, stepped, kids_by, kids}
-use Rattle.tableau_rules.specs.KidsSeen.{kid_by, count_of}
-use Rattle.tableau_rules.proofs.Lists.{cond_case, or_left, or_right}
-use Rattle.tableau_rules.proofs.Closing.{same_eq, same_self}
+use Rattle.tableau_rules.specs.KidsView.{kid_by, count_of}
+use Rattle.formula_table.proofs.Tests.{cond_case, or_left, or_right}
 use Rattle.tableau_rules.proofs.KidMeetings.{mk}
 
 -- ---- a formula has the number at which it stands
-member_of : (closure : List CoreForm) (f : ℕ) → f < length closure → IsMember closure (formula_at closure f)
-member_of [] f l = absurd (omega arith)
-member_of (d ∷ ds) zero l = or_left (is_same d d) _ (same_self d)
-member_of (d ∷ ds) (suc f) l = or_right (is_same (formula_at ds f) d) _ (member_of ds f (omega arith))
-
 pub number_is : (closure : List CoreForm) → IsDistinct closure → (f : ℕ) → f < length closure → number_in closure (formula_at closure f) ≡ f
 number_is [] o f l = absurd (omega arith)
 number_is (d ∷ ds) o zero l =
@@ -28,7 +23,7 @@ number_is (d ∷ ds) o zero l =
 number_is (d ∷ ds) o (suc n) l =
     let c = formula_at ds n in
     cond_case (λ p. p ≡ suc n) (is_same c d) _ _
-    (λ e. absurd (o.0 (subst (IsMember ds) (same_eq c d e) (member_of ds n (omega arith)))))
+    (λ e. absurd (o.0 (subst (IsMember ds) (same_eq c d e) (member_at ds n (omega arith)))))
     (λ _. ap suc (number_is ds o.1 n (omega arith)))
 
 -- ---- elements of a mapped list

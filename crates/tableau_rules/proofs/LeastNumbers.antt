@@ -2,7 +2,7 @@
 use Rattle.std.specs.List.{AllByRecursion as Each}
 use Rattle.std.proofs.Common.{◌≡◌, ℕ, ◌+◌, ◌<◌, ◌≤◌, Bool, true, false, List, [], ◌∷◌, IsTrue, IsFalse, ◌==◌, Option, Some, None, MatchOption, cond, nat_lt, refl, inl, inr, sym, ap, ◌∙◌, subst, true≢false, arith}
 use Rattle.tableau_rules.specs.Sets.{has_number, least_from, numbers_from}
-use Rattle.tableau_rules.proofs.Lists.{cond_case, or_left, or_right, or_true, eq_of, eq_self}
+use Rattle.formula_table.proofs.Tests.{cond_case, or_left, or_right, or_true, eq_of, eq_self}
 use Rattle.tableau_rules.proofs.NumberSets.{each_has}
 use Rattle.tableau_rules.proofs.Ascending.{IsAscending}
 

@@ -9,7 +9,7 @@ pub mod Closing
 pub mod NodeRules
 pub mod Outcomes
 pub mod Eliminations
-pub mod EmptyQuery
+pub mod RefutedQuery
 pub mod MetQuery
 pub mod Rounds
 pub mod EndlessWalks
@@ -23,10 +23,12 @@ pub mod OneWord
 pub mod NumbersOfWords
 pub mod BitWrites
 pub mod SameWords
+pub mod WordsOfNumbers
+pub mod CommonNumbers
+pub mod ClassSets
 pub mod WordChanges
 pub mod SetTests
 pub mod QueryClosures
-pub mod ChosenFormulas
 pub mod SetMeetings
 pub mod KidLists
 pub mod QueryNodes

@@ -7,18 +7,18 @@ use Rattle.state_space.specs.Members.{full_of}
 use Rattle.bound_unfolding.specs.CoreForm.{CoreForm}
 use Rattle.formula_table.specs.Closures.{closure_of}
 use Rattle.tableau_rules.specs.declared.graph.GraphNode.{GraphNode}
-use Rattle.tableau_rules.specs.declared.link.Link.{Link}
+use Rattle.tableau_rules.specs.declared.edges.Edges.{Edges}
 use Rattle.tableau_rules.specs.Rules.{fulfils, Rule, clash, step, one, two, fulfil_only, wait_only, fulfil_or_wait}
 use Rattle.tableau_rules.specs.Nodes.{NodeForm, chosen, node_rule, kids_by, kids}
-use Rattle.tableau_rules.specs.NodeSeen.{AreNumbersBelow}
+use Rattle.tableau_rules.specs.NodeView.{AreNumbersBelow}
 use Rattle.tableau_rules.specs.Graphs.{IsReached, GraphNodeForm, nodes_in, IsWhole}
-use Rattle.tableau_rules.specs.GraphSeen.{graph_node_of}
+use Rattle.tableau_rules.specs.GraphView.{graph_node_of}
 use Rattle.tableau_rules.specs.Links.{no_link, IsLinkOf, IsLinked}
 use Rattle.tableau_rules.proofs.QueryNodes.{reached_of_query}
 use Rattle.tableau_rules.proofs.Linked.{no_graph_node, get_at, get_of, node_at_place, held_count, fulfils_get}
 
 -- the links so far are those of the first nodes
-abbrev pub AreLinksOf : List CoreForm → List GraphNodeForm → List Link → Type 0
+abbrev pub AreLinksOf : List CoreForm → List GraphNodeForm → List Edges → Type 0
 AreLinksOf closure graph links = (k : ℕ) → k < length links → IsLinkOf closure (slice_index_or graph k no_graph_node) (slice_index_or links k no_link)
 
 pub no_links : (closure : List CoreForm) (graph : List GraphNodeForm) → AreLinksOf closure graph []
@@ -31,7 +31,7 @@ size_of nodes n e = let l = length-map nodes graph_node_of in omega (arith, l)
 pub seen_at : (nodes : List GraphNode) (k : ℕ) (node : GraphNode) → k < length nodes → node ≡ slice_index_or nodes k node → slice_index_or (map graph_node_of nodes) k no_graph_node ≡ graph_node_of node
 seen_at nodes k node l e = get_or-map graph_node_of nodes k node no_graph_node l ∙ ap graph_node_of (sym e)
 
-pub one_more_link : (closure : List CoreForm) (nodes : List GraphNode) (links : List Link) (k : ℕ) (node : GraphNode) (link : Link) → length links ≡ k → k < length nodes → node ≡ slice_index_or nodes k node
+pub one_more_link : (closure : List CoreForm) (nodes : List GraphNode) (links : List Edges) (k : ℕ) (node : GraphNode) (link : Edges) → length links ≡ k → k < length nodes → node ≡ slice_index_or nodes k node
     → AreLinksOf closure (map graph_node_of nodes) links → IsLinkOf closure (graph_node_of node) link → AreLinksOf closure (map graph_node_of nodes) (links ++ link ∷ [])
 one_more_link closure nodes links k node link size l e so_far is j jl = elim (cases_lt j (length links)) [
   | inl b ↦ subst (IsLinkOf closure (slice_index_or (map graph_node_of nodes) j no_graph_node)) (sym (get_or_append_left links (link ∷ []) no_link j b)) (so_far j b)
@@ -43,7 +43,7 @@ one_more_link closure nodes links k node link size l e so_far is j jl = elim (ca
       (subst (IsLinkOf closure (graph_node_of node)) (sym (get_or_at links link [] no_link k size)) is))
 ]
 
-pub all_linked : (cores : List CoreForm) (graph : List GraphNodeForm) (links : List Link) → length links ≡ length graph → AreLinksOf (closure_of cores) graph links → IsLinked cores graph links
+pub all_linked : (cores : List CoreForm) (graph : List GraphNodeForm) (links : List Edges) → length links ≡ length graph → AreLinksOf (closure_of cores) graph links → IsLinked cores graph links
 all_linked cores graph links size all = record {
   size = size;
   kids = λ k g e. (link_at k g e).kids;

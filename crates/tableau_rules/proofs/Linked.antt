@@ -6,14 +6,15 @@ use Rattle.std.proofs.lemmas.Bool.{cases_order}
 use Rattle.state_space.specs.Members.{full_of}
 use Rattle.bound_unfolding.specs.CoreForm.{CoreForm}
 use Rattle.formula_table.specs.Closures.{formula_at, closure_of}
-use Rattle.tableau_rules.specs.declared.link.Link.{Link}
+use Rattle.tableau_rules.specs.declared.edges.Edges.{Edges}
 use Rattle.tableau_rules.specs.Words.{is_given}
 use Rattle.tableau_rules.specs.Nodes.{NodeForm, carries, kids}
 use Rattle.tableau_rules.specs.Certificates.{is_until}
 use Rattle.tableau_rules.specs.Walks.{no_node}
 use Rattle.tableau_rules.specs.Graphs.{IsReached, root, kid, GraphNodeForm, nodes_in, PlacesHold, IsWhole}
 use Rattle.tableau_rules.specs.Links.{Among, IsHead, kids_at, fulfils_at, carries_at, no_link, InRange, IsLinked, PlaceReached, start, more}
-use Rattle.tableau_rules.proofs.Lists.{AnyOf, any_from_of, any_at, and_true, and_intro}
+use Rattle.formula_table.proofs.Tests.{and_true, and_intro}
+use Rattle.tableau_rules.proofs.Lists.{AnyOf, any_from_of, any_at}
 use Rattle.tableau_rules.proofs.Carrying.{carrying_law}
 
 abbrev pub no_graph_node : GraphNodeForm
@@ -97,11 +98,11 @@ pub carries_get : (closure : List CoreForm) (graph : List GraphNodeForm) (e k : 
 unfolding carries_at
 carries_get closure graph e k g h = ap (λ (x : GraphNodeForm). is_until (formula_at closure e) && carries e x.node) (get_at graph k g no_graph_node h).1
 
-pub fulfils_get : (links : List Link) (e k : ℕ) → fulfils_at links e k ≡ is_given (slice_index_or links k no_link).fulfils e
+pub fulfils_get : (links : List Edges) (e k : ℕ) → fulfils_at links e k ≡ is_given (slice_index_or links k no_link).fulfils e
 unfolding fulfils_at
 fulfils_get links e k = refl
 
-module _ (sizes : List ℕ) (cores : List CoreForm) (graph : List GraphNodeForm) (links : List Link) (whole : IsWhole sizes cores graph) (linked : IsLinked cores graph links) where
+module _ (sizes : List ℕ) (cores : List CoreForm) (graph : List GraphNodeForm) (links : List Edges) (whole : IsWhole sizes cores graph) (linked : IsLinked cores graph links) where
   abbrev closure : List CoreForm
   closure = closure_of cores
 

@@ -1,4 +1,5 @@
--- A small query, `eventually p`: a walk in its tableau that closes, and the lasso of its states, where p is true at once.
+-- A worked example of the definitions, of which no lemma is cited: the query of `eventually p`, a walk in its tableau that closes, and the lasso of
+-- its states, where p is true at once.
 use Rattle.std.proofs.Common.{ℕ, zero, suc, ◌+◌, ◌<◌, ◌≤◌, true, List, [], ◌∷◌, inl, refl, sym, arith, true≢false}
 use Rattle.std.specs.Prelude.{Contains}
 use Rattle.std.proofs.lemmas.List.Elements.{All-from_recursion}

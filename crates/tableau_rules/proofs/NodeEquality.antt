@@ -7,9 +7,9 @@ use Rattle.state_space.specs.contracts.values.ValuesPartialEq.TheImpl as TheValu
 use Rattle.tableau_rules.specs.declared.node.Node.{Node}
 use Rattle.tableau_rules.specs.contracts.node.NodePartialEq.TheImpl
 use Rattle.tableau_rules.specs.Nodes.{NodeForm}
-use Rattle.tableau_rules.specs.NodeSeen.{node_of}
+use Rattle.tableau_rules.specs.NodeView.{node_of}
 use Rattle.tableau_rules.specs.Turns.{sets_of}
-use Rattle.tableau_rules.proofs.Lists.{and_intro, and_true}
+use Rattle.formula_table.proofs.Tests.{and_intro, and_true}
 
 values_eq : (u v : Values) → (TheValues.eq-value).it u v ≡ nat_eq u.0 v.0
 values_eq u v = refl

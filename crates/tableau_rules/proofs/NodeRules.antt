@@ -12,7 +12,8 @@ use Rattle.state_space.specs.Members.{full_of}
 use Rattle.tableau_rules.specs.Nodes.{NodeForm, first_best, chosen, has_empty, todo_rule, node_rule, kid, stepped, kids_by, kids}
 use Rattle.tableau_rules.specs.Meeting.{MeetsNode, KeepsMeeting}
 use Rattle.tableau_rules.specs.Queries.{IsOver}
-use Rattle.tableau_rules.proofs.Lists.{AnyOf, cond_case, some_map, any_from_of, of_from_any}
+use Rattle.formula_table.proofs.Tests.{cond_case}
+use Rattle.tableau_rules.proofs.Lists.{AnyOf, some_map, any_from_of, of_from_any}
 use Rattle.tableau_rules.proofs.NumberSets.{has_first_best}
 use Rattle.tableau_rules.proofs.IndexSets.{LieIn, lie_in, lie_each, empty_none, full_lies}
 use Rattle.tableau_rules.proofs.RuleTruths.{Decided}

@@ -6,7 +6,7 @@ use Rattle.formula_table.specs.Closures.{formula_at, number_in}
 use Rattle.tableau_rules.specs.Rules.{class_of}
 use Rattle.tableau_rules.specs.Sets.{has_number, with_number, without_number}
 use Rattle.tableau_rules.specs.Nodes.{first_best, with_numbers_of}
-use Rattle.tableau_rules.proofs.Lists.{cond_case, or_left, or_right, or_true, eq_of, eq_self}
+use Rattle.formula_table.proofs.Tests.{cond_case, or_left, or_right, or_true, eq_of, eq_self}
 
 pub each_has : (P : ℕ → Type 0) (xs : List ℕ) (y : ℕ) → Each P xs → IsTrue (has_number xs y) → P y
 each_has P [] y h k = absurd (true≢false (sym k))

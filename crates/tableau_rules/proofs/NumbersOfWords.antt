@@ -8,10 +8,10 @@ use Rattle.std.proofs.lemmas.Nat.Bits.{bit_at-zero}
 use Rattle.std.proofs.lemmas.List.{get_or_past}
 use Rattle.tableau_rules.specs.Sets.{has_number, with_number, without_number, least_from}
 use Rattle.tableau_rules.specs.Words.{has_bit, passing, numbers_of}
-use Rattle.tableau_rules.proofs.Lists.{cond_case, or_left, or_right, or_true, eq_of, eq_to}
+use Rattle.formula_table.proofs.Tests.{cond_case, or_left, or_right, or_true, eq_of, eq_to}
 use Rattle.tableau_rules.proofs.Ascending.{IsAscending, ascending_with, ascending_without, same_bool, same_ascending, has_in_with, has_in_without}
-use Rattle.tableau_rules.proofs.OneWord.{not_both}
 use Rattle.tableau_rules.proofs.LeastNumbers.{least_is, least_none}
+use Rattle.state_space.proofs.BitSets.{not_one_from_zero}
 
 -- ---- those that pass
 pub passing_above : (p : ℕ → Bool) (a n b : ℕ) → b < a → Each (λ y. b < y) (passing p a n)
@@ -57,7 +57,7 @@ bit_below ws z h = elim (cases_lt (z / 64) (length ws)) [
 ]
   where
     zero_bit : (i : ℕ) → IsTrue (bit_at 0 i == 1) → ⊥
-    zero_bit i h = let e : bit_at 0 i ≡ 0 = bit_at-zero i in let o : bit_at 0 i ≡ 1 = eq_of (bit_at 0 i) 1 h in not_both (bit_at 0 i) e o
+    zero_bit i h = let e : bit_at 0 i ≡ 0 = bit_at-zero i in let o : bit_at 0 i ≡ 1 = eq_of (bit_at 0 i) 1 h in not_one_from_zero (bit_at 0 i) e o
 
 not_here : (b : Bool) → (IsTrue b → ⊥) → b ≡ false
 not_here true h = absurd (h refl)

@@ -2,16 +2,11 @@
 use Rattle.std.specs.Int.{bit_at, trailing_zeros, w64, bit_not}
 use Rattle.std.specs.Int.RustNames.{bit_or}
 use Rattle.std.proofs.Common.{bit_and, ◌≡◌, ◌≢◌, ℕ, ◌+◌, ◌-◌, ◌*◌, ◌/◌, ◌%◌, ◌^◌, ◌<◌, ◌≤◌, false, List, ◌==◌, ◌||◌, ◌&&◌, not, get_or, min, inl, inr, sym, ap, ap₂, ◌∙◌, arith}
-use Rattle.std.proofs.lemmas.Bool.{cases_lt, cases_eq}
+use Rattle.std.proofs.lemmas.Bool.{cases_lt, cases_eq, ne_eqb}
 use Rattle.std.proofs.lemmas.Nat.Bits.{bit_at_and, bit_at_above, bit_at_mask_inside, bit_at_mask_below, bit_at-zero, bit_at_set_same, bit_at_set_other, bit_at_clear_same, bit_at_clear_other, bit_at-trailing_zeros, bit_at-lt}
 use Rattle.tableau_rules.specs.Words.{has_bit}
-use Rattle.tableau_rules.proofs.Lists.{or_left, eq_of, eq_to}
-
-pub not_both : (x : ℕ) → x ≡ 0 → x ≡ 1 → ⊥
-not_both x a b = omega arith
-
-pub eq_no : (x y : ℕ) → x ≢ y → (x == y) ≡ false
-eq_no x y n = grind arith
+use Rattle.formula_table.proofs.Tests.{or_left, eq_of, eq_to}
+use Rattle.state_space.proofs.BitSets.{not_one_from_zero}
 
 pub bit_eq : (a b c d : ℕ) → a ≡ b → c ≡ d → (bit_at a c == 1) ≡ (bit_at b d == 1)
 bit_eq a b c d e f = ap₂ (λ x y. bit_at x y == 1) e f
@@ -44,7 +39,7 @@ min_zero x y h e = grind arith
 pub masked_one : (w from k : ℕ) → from < 64 → k < 64 → bit_at (bit_and w (2 ^ 64 - 2 ^ from)) k ≡ 1 → (from ≤ k) × (bit_at w k ≡ 1)
 masked_one w from k l m h =
     let r = min_one (bit_at w k) (bit_at (2 ^ 64 - 2 ^ from) k) (sym (bit_at_and w (2 ^ 64 - 2 ^ from) k) ∙ h) (bit_at-lt w k) (bit_at-lt (2 ^ 64 - 2 ^ from) k) in
-    (elim (cases_lt k from) [ inl s ↦ absurd (not_both (bit_at (2 ^ 64 - 2 ^ from) k) (bit_at_mask_below from 64 k s) r.1) | inr g ↦ g ], r.0)
+    (elim (cases_lt k from) [ inl s ↦ absurd (not_one_from_zero (bit_at (2 ^ 64 - 2 ^ from) k) (bit_at_mask_below from 64 k s) r.1) | inr g ↦ g ], r.0)
 
 pub masked_zero : (w from j : ℕ) → from ≤ j → j < 64 → bit_at (bit_and w (2 ^ 64 - 2 ^ from)) j ≡ 0 → bit_at w j ≡ 0
 masked_zero w from j l m h = min_zero (bit_at w j) (bit_at (2 ^ 64 - 2 ^ from) j) (sym (bit_at_and w (2 ^ 64 - 2 ^ from) j) ∙ h) (bit_at_mask_inside from 64 j l m)
@@ -69,7 +64,7 @@ with_bit w x at i k e f l =
     let b = bit_or w (1 * 2 ^ (x % 64) % 2 ^ 64) in
     elim (cases_eq k (x % 64)) [
       | inl q ↦ ap (λ j. bit_at b j == 1) q ∙ (eq_to (bit_at b (x % 64)) 1 (bit_at_set_same w64 w (x % 64) m) ∙ sym (or_left (64 * at + k == x) (bit_at w k == 1) (eq_to (64 * at + k) x (omega arith))))
-      | inr n ↦ ap (λ v. v == 1) (bit_at_set_other w64 w (x % 64) m k n) ∙ sym (ap (λ v. v || (bit_at w k == 1)) (eq_no (64 * at + k) x (λ h. n (omega arith))))
+      | inr n ↦ ap (λ v. v == 1) (bit_at_set_other w64 w (x % 64) m k n) ∙ sym (ap (λ v. v || (bit_at w k == 1)) (ne_eqb (64 * at + k) x (λ h. n (omega arith))))
     ]
 
 pub without_bit : (w x at i k : ℕ) → i ≡ x / 64 → i ≡ at → k < 64 → (bit_at (bit_and w (bit_not w64 (1 * 2 ^ (x % 64) % 2 ^ 64))) k == 1) ≡ (not (64 * at + k == x) && (bit_at w k == 1))
@@ -77,6 +72,6 @@ without_bit w x at i k e f l =
     let m : x % 64 < 64 = omega arith in
     let b = bit_and w (bit_not w64 (1 * 2 ^ (x % 64) % 2 ^ 64)) in
     elim (cases_eq k (x % 64)) [
-      | inl q ↦ ap (λ j. bit_at b j == 1) q ∙ (eq_no (bit_at b (x % 64)) 1 (not_both (bit_at b (x % 64)) (bit_at_clear_same w64 w (x % 64) m)) ∙ sym (ap (λ v. not v && (bit_at w k == 1)) (eq_to (64 * at + k) x (omega arith))))
-      | inr n ↦ ap (λ v. v == 1) (bit_at_clear_other w64 w (x % 64) m k l n) ∙ sym (ap (λ v. not v && (bit_at w k == 1)) (eq_no (64 * at + k) x (λ h. n (omega arith))))
+      | inl q ↦ ap (λ j. bit_at b j == 1) q ∙ (ne_eqb (bit_at b (x % 64)) 1 (not_one_from_zero (bit_at b (x % 64)) (bit_at_clear_same w64 w (x % 64) m)) ∙ sym (ap (λ v. not v && (bit_at w k == 1)) (eq_to (64 * at + k) x (omega arith))))
+      | inr n ↦ ap (λ v. v == 1) (bit_at_clear_other w64 w (x % 64) m k l n) ∙ sym (ap (λ v. not v && (bit_at w k == 1)) (ne_eqb (64 * at + k) x (λ h. n (omega arith))))
     ]

@@ -7,7 +7,8 @@ use Rattle.formula_table.specs.Closures.{formula_at, number_in, operands}
 use Rattle.tableau_rules.specs.Sets.{has_number, with_number, without_number}
 use Rattle.tableau_rules.specs.Rules.{Change, adds, waits, Rule, changes, is_clash, fulfils, decided_true, decided_false, rule_of}
 use Rattle.tableau_rules.specs.Nodes.{NodeForm, carries, first_best, chosen, has_empty, todo_rule, node_rule, kid, with_numbers_of, kids_by, kids}
-use Rattle.tableau_rules.proofs.Lists.{AnyOf, FirstOf, cond_case, bool_cases, eq_of, eq_to, or_true, each_both, some_both, some_map, some_image}
+use Rattle.formula_table.proofs.Tests.{cond_case, bool_cases, eq_of, eq_to, or_true}
+use Rattle.tableau_rules.proofs.Lists.{AnyOf, FirstOf, each_both, some_both, some_map, some_image}
 use Rattle.tableau_rules.proofs.NumberSets.{each_has, has_with, has_without, has_with_cores_more, has_first_best, total, total_with, total_without}
 use Rattle.tableau_rules.proofs.IndexSets.{LieIn, empty_none}
 use Rattle.tableau_rules.proofs.Positions.{Fulfilled, until_of, of_until, fulfilled_later}

@@ -1,38 +1,38 @@
 -- Passes that give levels to places, one after another.
 use Rattle.std.proofs.Common.{◌≡◌, ◌≢◌, ℕ, suc, ◌+◌, ◌-◌, ◌<◌, ◌≤◌, ◌⊎◌, List, length, get_or, set, Bool, true, false, sym, ap, subst, ◌∙◌, inl, inr, arith, get_or-set_same, get_or-set_other, length-set, ◌&&◌, ◌||◌, nat_lt, replicate}
 use Rattle.std.proofs.lemmas.List.{length-replicate, get_or-replicate}
-use Rattle.std.proofs.lemmas.Bool.{cases_eq}
-use Rattle.tableau_rules.specs.declared.link.Link.{Link}
+use Rattle.std.proofs.lemmas.Bool.{cases_eq, and_parts}
+use Rattle.tableau_rules.specs.declared.edges.Edges.{Edges}
 use Rattle.tableau_rules.specs.Links.{Among, kids_at, InRange}
 use Rattle.tableau_rules.specs.Levels.{Levelling, Way, Fulfils, Alive, can_go, free, alive_at, head_is, some_is, levelled_at}
-use Rattle.tableau_rules.proofs.PlaceTests.{and_is, or_is, below_is, head_has, some_has, free_set, free_most, free_all, each_at}
+use Rattle.tableau_rules.proofs.PlaceTests.{or_is, below_is, head_has, some_has, free_set, free_most, free_all, each_at}
 
 -- all nodes from n on were looked at
-pub record Swept (links : List Link) (fulfilling : ℕ → Bool) (alive : List Bool) (levels : List ℕ) (rest left n : ℕ) : Type 0 where
+pub record Swept (links : List Edges) (fulfilling : ℕ → Bool) (alive : List Bool) (levels : List ℕ) (rest left n : ℕ) : Type 0 where
   pub levelling : Levelling links fulfilling alive levels rest
   pub less : rest ≤ left
   pub whole : rest ≡ left → (m : ℕ) → n ≤ m → m < length links → length links ≤ get_or levels m 0 → can_go links fulfilling alive levels m ≡ false
 
 -- what a node that can go has
-abbrev pub Going : List Link → (ℕ → Bool) → List Bool → List ℕ → ℕ → Type 0
+abbrev pub Going : List Edges → (ℕ → Bool) → List Bool → List ℕ → ℕ → Type 0
 Going links fulfilling alive levels n = Alive alive n × (Fulfils links fulfilling alive n ⊎ ((k : ℕ) × Among k (kids_at links n) × Alive alive k × (get_or levels k 0 < length links)))
 
-pub going : (links : List Link) (fulfilling : ℕ → Bool) (alive : List Bool) (levels : List ℕ) (n : ℕ) → can_go links fulfilling alive levels n ≡ true → Going links fulfilling alive levels n
+pub going : (links : List Edges) (fulfilling : ℕ → Bool) (alive : List Bool) (levels : List ℕ) (n : ℕ) → can_go links fulfilling alive levels n ≡ true → Going links fulfilling alive levels n
 going links fulfilling alive levels n h =
     let f = fulfilling n && head_is (alive_at alive) (kids_at links n) in
     let s = some_is (levelled_at alive levels (length links)) (kids_at links n) in
-    let a = and_is (alive_at alive n) (f || s) h in (
+    let a = and_parts (alive_at alive n) (f || s) h in (
       a.0,
       elim (or_is f s a.1) [
-        | inl x ↦ let y = and_is (fulfilling n) (head_is (alive_at alive) (kids_at links n)) x in
+        | inl x ↦ let y = and_parts (fulfilling n) (head_is (alive_at alive) (kids_at links n)) x in
             let k = head_has (alive_at alive) (kids_at links n) y.1 in inl (y.0, (k.0, k.1, k.2))
         | inr x ↦ let k = some_has (levelled_at alive levels (length links)) (kids_at links n) x in
-            let b = and_is (alive_at alive k.0) (nat_lt (get_or levels k.0 0) (length links)) k.2 in
+            let b = and_parts (alive_at alive k.0) (nat_lt (get_or levels k.0 0) (length links)) k.2 in
             inr (k.0, k.1, b.0, below_is (get_or levels k.0 0) (length links) b.1)
       ],
     )
 
-pub way_kept : (links : List Link) (fulfilling : ℕ → Bool) (alive : List Bool) (levels next : List ℕ) (n : ℕ) → get_or next n 0 ≡ get_or levels n 0 → ((k : ℕ) → get_or levels k 0 < get_or levels n 0 → get_or next k 0 ≡ get_or levels k 0) → Way links fulfilling alive levels n → Way links fulfilling alive next n
+pub way_kept : (links : List Edges) (fulfilling : ℕ → Bool) (alive : List Bool) (levels next : List ℕ) (n : ℕ) → get_or next n 0 ≡ get_or levels n 0 → ((k : ℕ) → get_or levels k 0 < get_or levels n 0 → get_or next k 0 ≡ get_or levels k 0) → Way links fulfilling alive levels n → Way links fulfilling alive next n
 way_kept links fulfilling alive levels next n e f w = (
   w.0,
   elim w.1 [
@@ -41,7 +41,7 @@ way_kept links fulfilling alive levels next n e f w = (
   ],
 )
 
-module _ (links : List Link) (fulfilling : ℕ → Bool) (alive : List Bool) (levels : List ℕ) (rest left n i : ℕ) (range : InRange links) (lt : i < length links)
+module _ (links : List Edges) (fulfilling : ℕ → Bool) (alive : List Bool) (levels : List ℕ) (rest left n i : ℕ) (range : InRange links) (lt : i < length links)
     (none : length links ≤ get_or levels i 0) (so_far : Levelling links fulfilling alive levels rest) where
   pub free_less : (y : ℕ) → y < length links → free (length links) (set levels i y) + 1 ≡ rest
   free_less y h =
@@ -97,7 +97,7 @@ module _ (links : List Link) (fulfilling : ℕ → Bool) (alive : List Bool) (le
         ];
       }
 
-pub swept_take : (links : List Link) (fulfilling : ℕ → Bool) (alive : List Bool) (levels : List ℕ) (rest left n i : ℕ) → InRange links → i < length links
+pub swept_take : (links : List Edges) (fulfilling : ℕ → Bool) (alive : List Bool) (levels : List ℕ) (rest left n i : ℕ) → InRange links → i < length links
     → length links ≤ get_or levels i 0 → can_go links fulfilling alive levels i ≡ true → Swept links fulfilling alive levels rest left n → Swept links fulfilling alive (set levels i (length links - rest)) (rest - 1) left i
 swept_take links fulfilling alive levels rest left n i range lt none go s =
     let r = has_rest links fulfilling alive levels rest left n i range lt none s.levelling in
@@ -109,7 +109,7 @@ swept_take links fulfilling alive levels rest left n i range lt none go s =
       whole = λ e. absurd (omega (arith, e, sl, r0));
     }
 
-pub swept_skip : (links : List Link) (fulfilling : ℕ → Bool) (alive : List Bool) (levels : List ℕ) (rest left n i : ℕ) → n ≤ suc i
+pub swept_skip : (links : List Edges) (fulfilling : ℕ → Bool) (alive : List Bool) (levels : List ℕ) (rest left n i : ℕ) → n ≤ suc i
     → (length links ≤ get_or levels i 0 → can_go links fulfilling alive levels i ≡ false) → Swept links fulfilling alive levels rest left n → Swept links fulfilling alive levels rest left i
 swept_skip links fulfilling alive levels rest left n i le stays s =
     record {
@@ -121,7 +121,7 @@ swept_skip links fulfilling alive levels rest left n i le stays s =
       ];
     }
 
-pub all_free : (links : List Link) (fulfilling : ℕ → Bool) (alive : List Bool) (levels : List ℕ) → levels ≡ replicate (length links) (length links) → Levelling links fulfilling alive levels (length links)
+pub all_free : (links : List Edges) (fulfilling : ℕ → Bool) (alive : List Bool) (levels : List ℕ) → levels ≡ replicate (length links) (length links) → Levelling links fulfilling alive levels (length links)
 all_free links fulfilling alive levels e =
     let at : (n : ℕ) → n < length links → get_or levels n 0 ≡ length links = λ n h. ap (λ z. get_or z n 0) e ∙ get_or-replicate (length links) n (length links) 0 h in
     let size : length levels ≡ length links = ap (λ z. length z) e ∙ length-replicate (length links) (length links) in

@@ -4,11 +4,6 @@ use Rattle.std.specs.List.{AllByRecursion as Each}
 use Rattle.tableau_rules.specs.Links.{Among, IsHead}
 use Rattle.tableau_rules.specs.Levels.{head_is, some_is, free}
 
-pub and_is : (a b : Bool) → (a && b) ≡ true → (a ≡ true) × (b ≡ true)
-and_is true true h = (refl, refl)
-and_is true false h = cc
-and_is false b h = cc
-
 pub or_is : (a b : Bool) → (a || b) ≡ true → (a ≡ true) ⊎ (b ≡ true)
 or_is true b h = inl refl
 or_is false b h = inr h

@@ -3,19 +3,20 @@ use Rattle.std.proofs.Common.{◌≡◌, ℕ, zero, suc, ◌+◌, ◌<◌, ◌�
 use Rattle.std.proofs.lemmas.List.{drop_more}
 use Rattle.bound_unfolding.specs.CoreForm.{CoreForm}
 use Rattle.bound_unfolding.specs.declared.core_form.Core.{Core}
-use Rattle.bound_unfolding.specs.CoreSeen.{core_tree_of}
+use Rattle.bound_unfolding.specs.CoreView.{core_tree_of}
 use Rattle.formula_table.specs.Closures.{is_same, formula_at, number_in, with_core, with_cores, closure_of}
 use Rattle.formula_table.specs.Tables.{closure_in, IsKept}
-use Rattle.formula_table.proofs.Members.{member_at}
+use Rattle.formula_table.proofs.Members.{same_eq, same_self}
 use Rattle.formula_table.proofs.Cores.{kept_self, kept_then, core_kept}
 use Rattle.formula_table.proofs.CoreLaws.{core_size}
 use Rattle.tableau_rules.specs.declared.query.Query.{Query}
 use Rattle.tableau_rules.specs.Nodes.{with_numbers_of}
 use Rattle.tableau_rules.specs.Sets.{with_number}
-use Rattle.tableau_rules.specs.QuerySeen.{cores_in, total_nodes}
+use Rattle.tableau_rules.specs.QueryView.{cores_in, total_nodes}
 use Rattle.tableau_rules.specs.SameCores.{are_same}
-use Rattle.tableau_rules.proofs.Lists.{cond_case, and_intro, and_true}
-use Rattle.tableau_rules.proofs.Closing.{same_eq, same_self, IsMember, Once, closure_grows}
+use Rattle.formula_table.proofs.Tests.{cond_case, and_intro, and_true}
+use Rattle.tableau_rules.proofs.Closing.{closure_grows}
+use Rattle.tableau_rules.proofs.KidLists.{number_is}
 
 -- ---- equal lists
 pub are_same_eq : (xs ys : List CoreForm) → IsTrue (are_same xs ys) → xs ≡ ys
@@ -31,8 +32,8 @@ pub are_same_of : (xs ys : List CoreForm) → xs ≡ ys → IsTrue (are_same xs 
 are_same_of xs ys e = subst (λ zs. IsTrue (are_same xs zs)) e (are_same_self xs)
 
 -- a query's table has the query's closure
-pub closure_is : (q : Query) → closure_in q.table ≡ closure_of (cores_in q)
-closure_is q = are_same_eq (closure_in q.table) (closure_of (cores_in q)) q.closed
+pub closure_is : (q : Query) → closure_in q.formulas.table ≡ closure_of (cores_in q)
+closure_is q = are_same_eq (closure_in q.formulas.table) (closure_of (cores_in q)) q.closed
 
 -- ---- what the closure is while cores are left
 cores_kept : (cs cl : List CoreForm) → IsKept cl (with_cores cs cl)
@@ -46,15 +47,6 @@ cores_size (c ∷ cs) cl = let one = core_size c cl in let more = cores_size cs 
 pub closure_size : (cs : List CoreForm) → length (closure_of cs) ≤ total_nodes cs
 closure_size cs = let h = cores_size cs [] in omega (arith, h)
 
--- a formula of a closure has the number at which it stands
-number_at : (cl : List CoreForm) → Once cl → (k : ℕ) → k < length cl → number_in cl (formula_at cl k) ≡ k
-number_at [] o k l = absurd (omega arith)
-number_at (d ∷ ds) o zero l = cond_case (λ p. p ≡ 0) (is_same d d) _ _ (λ _. refl) (λ f. absurd (true≢false (sym (same_self d) ∙ f)))
-number_at (d ∷ ds) o (suc k) l =
-    let c = formula_at ds k in
-    cond_case (λ p. p ≡ suc k) (is_same c d) _ _
-    (λ e. absurd (o.0 (subst (IsMember ds) (same_eq c d e) (member_at ds k (omega arith))))) (λ _. ap suc (number_at ds o.1 k (omega arith)))
-
 -- ---- one core of the list
 module _ (all : List CoreForm) (cs : List CoreForm) (cl : List CoreForm) (rest : with_cores cs cl ≡ closure_of all) where
   part : IsKept cl (closure_of all)
@@ -66,7 +58,7 @@ module _ (all : List CoreForm) (cs : List CoreForm) (cl : List CoreForm) (rest :
   pub number_then : (c : CoreForm) (id : ℕ) → id < length cl → formula_at cl id ≡ c → number_in (closure_of all) c ≡ id
   number_then c id inside at =
       let p = part.0 in
-      subst (λ d. number_in (closure_of all) d ≡ id) (part.1 id inside ∙ at) (number_at (closure_of all) (closure_grows all).fine.once id (omega (arith, inside, p)))
+      subst (λ d. number_in (closure_of all) d ≡ id) (part.1 id inside ∙ at) (number_is (closure_of all) (closure_grows all).fine.once id (omega (arith, inside, p)))
 
 -- ---- one core of a list in memory
 trees_more : (xs : List Core) (k : ℕ) (x : Core) → k < length xs → x ≡ get_or xs k x → map core_tree_of (drop k xs) ≡ core_tree_of x ∷ map core_tree_of (drop (k + 1) xs)

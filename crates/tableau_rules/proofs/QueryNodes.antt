@@ -21,7 +21,7 @@ use Rattle.tableau_rules.proofs.NumberSets.{each_has, each_without, each_with_co
 use Rattle.tableau_rules.proofs.Ascending.{IsAscending, ascending_with, ascending_without, increasing}
 use Rattle.tableau_rules.proofs.RuleParts.{no_step, rule_parts}
 use Rattle.tableau_rules.proofs.NodeRules.{kids_by_changes}
-use Rattle.tableau_rules.proofs.IndexSets.{length-met_with, length-full_of}
+use Rattle.tableau_rules.proofs.IndexSets.{length-met_with, length-full_of, length-met_with_all}
 use Rattle.tableau_rules.proofs.Closing.{closure_grows}
 
 -- ---- the sets
@@ -38,10 +38,6 @@ met_all_less (m ∷ ms) now x =
     let a = met_all_less ms (met_with m.0 m.1 now) x in
     let b = met_less m.0 m.1 now x in
     omega (arith, a, b)
-
-met_all_length : (ms : List (ℕ × ℕ)) (now : List ℕ) → length (met_with_all ms now) ≡ length now
-met_all_length [] now = refl
-met_all_length (m ∷ ms) now = met_all_length ms (met_with m.0 m.1 now) ∙ length-met_with m.0 m.1 now
 
 full_below : (sizes : List ℕ) (x : ℕ) → x < length sizes → slice_index (full_of sizes) x < 2 ^ slice_index sizes x
 full_below [] x l = absurd (omega arith)
@@ -121,7 +117,7 @@ module _ (sizes : List ℕ) (cores : List CoreForm) where
     todo_below = below_with_cores cl c.todo (without_number g n.todo) h.0 (each_without (λ f. f < length cl) g n.todo q.todo_below);
     next = ascending_with_cores cl c.next n.next q.next;
     next_below = below_with_cores cl c.next n.next h.1 q.next_below;
-    variables = met_all_length c.sets n.now ∙ q.variables;
+    variables = length-met_with_all c.sets n.now ∙ q.variables;
     indexes = λ x l. let a = met_all_less c.sets n.now x in let b = q.indexes x l in omega (arith, a, b);
   }
 

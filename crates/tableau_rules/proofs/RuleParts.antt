@@ -4,7 +4,8 @@ use Rattle.std.specs.List.{AllByRecursion as Each}
 use Rattle.bound_unfolding.specs.CoreForm.{CoreForm, core_true, core_false, lit, both, either, after, core_until, core_release, nodes}
 use Rattle.formula_table.specs.Closures.{formula_at, number_in, operands}
 use Rattle.tableau_rules.specs.Rules.{Change, Rule, step, changes, decided_true, decided_false, rule_of}
-use Rattle.tableau_rules.proofs.Lists.{cond_case, each_map}
+use Rattle.formula_table.proofs.Tests.{cond_case}
+use Rattle.tableau_rules.proofs.Lists.{each_map}
 use Rattle.tableau_rules.proofs.IndexSets.{AreBelow}
 
 -- no core's rule is a step

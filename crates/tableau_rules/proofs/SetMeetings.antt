@@ -7,8 +7,9 @@ use Rattle.tableau_rules.specs.declared.effect.Effect.{Effect}
 use Rattle.tableau_rules.specs.declared.effect.Effect.TheVariants.{Meets}
 use Rattle.tableau_rules.specs.Nodes.{met_with}
 use Rattle.tableau_rules.specs.Turns.{sets_of}
-use Rattle.tableau_rules.specs.KidsSeen.{met_by, set_by}
-use Rattle.tableau_rules.proofs.Lists.{cond_case}
+use Rattle.tableau_rules.specs.KidsView.{met_by, set_by}
+use Rattle.formula_table.proofs.Tests.{cond_case}
+use Rattle.tableau_rules.proofs.IndexSets.{length-met_with}
 
 -- ---- one set is written
 pub meet_at : (now : List Values) (x i m : ℕ) (d w : Values) → i ≡ x → i < length now → w.0 ≡ bit_and (slice_index_or now i d).0 m → sets_of (set now i w) ≡ met_with x m (sets_of now)
@@ -29,13 +30,8 @@ pub sets_length : (now : List Values) → length (sets_of now) ≡ length now
 sets_length [] = refl
 sets_length (s ∷ now) = ap suc (sets_length now)
 
-meet_length : (x m : ℕ) (now : List ℕ) → length (met_with x m now) ≡ length now
-meet_length x m [] = refl
-meet_length zero m (s ∷ now) = refl
-meet_length (suc x) m (s ∷ now) = ap suc (meet_length x m now)
-
 met_length : (e : Effect) (now : List ℕ) → length (met_by e now) ≡ length now
-met_length (Meets x m) now = meet_length x.0 m.0 now
+met_length (Meets x m) now = length-met_with x.0 m.0 now
 met_length _ now = refl
 
 pub same_length : (e : Effect) (new old : List Values) → sets_of new ≡ met_by e (sets_of old) → length new ≡ length old

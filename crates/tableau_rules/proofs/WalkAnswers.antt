@@ -19,7 +19,8 @@ use Rattle.tableau_rules.specs.Nodes.{NodeForm, kids}
 use Rattle.tableau_rules.specs.Certificates.{is_until}
 use Rattle.tableau_rules.specs.Queries.{IsOver}
 use Rattle.tableau_rules.specs.Walks.{no_node, node_at, Settles, IsClosedWalk, least_index, is_empty, states, IsAnswer}
-use Rattle.tableau_rules.proofs.Lists.{AnyOf, cond_case, any_at, each_map, each_both}
+use Rattle.formula_table.proofs.Tests.{cond_case}
+use Rattle.tableau_rules.proofs.Lists.{AnyOf, any_at, each_map, each_both}
 use Rattle.tableau_rules.proofs.NumberSets.{each_put_in}
 use Rattle.tableau_rules.proofs.IndexSets.{LieIn, lie_each, length-full_of}
 use Rattle.tableau_rules.proofs.RuleParts.{LiteralBelow, IsKnown}

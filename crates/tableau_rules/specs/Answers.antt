@@ -6,7 +6,7 @@ use Rattle.tableau_rules.specs.declared.answer.Answer.{Answer}
 use Rattle.tableau_rules.specs.declared.answer.Answer.TheVariants.{Empty, Found, Withheld}
 use Rattle.tableau_rules.specs.Queries.{MeetsAll}
 use Rattle.tableau_rules.specs.Certificates.{IsValid}
-use Rattle.tableau_rules.specs.CertSeen.{cert_of}
+use Rattle.tableau_rules.specs.CertView.{cert_of}
 use Rattle.tableau_rules.specs.Graphs.{HasSize, IsWithin, IsLarger}
 
 -- within the budget a valid certificate with no more nodes than the size, or a lasso that meets the cores; else nothing but the budget

@@ -8,7 +8,7 @@ use Rattle.tableau_rules.specs.Rules.{is_clash, fulfils}
 use Rattle.state_space.specs.Members.{full_of}
 use Rattle.tableau_rules.specs.Nodes.{NodeForm, carries, chosen, node_rule, kids, root_of}
 
--- the node's own rule, its kids, or an until that is put off for ever
+-- the node's own rule, its kids, or the until e, which is put off for ever
 pub data ReasonForm : Type 0 where
   clash : ReasonForm
   dead : ReasonForm
@@ -29,14 +29,16 @@ HoldsNode cert place n = (c : CertNodeForm) × (slice_get cert place ≡ Some c)
 abbrev pub HoldsKids : List CertNodeForm → List ℕ → List NodeForm → Type 0
 HoldsKids cert places nodes = AllZip (HoldsNode cert) places nodes
 
--- what is at each of the places has P; and what is at the first
+-- what is at each of the places has P
 abbrev pub EachKid : List CertNodeForm → (CertNodeForm → Type 0) → List ℕ → Type 0
 EachKid cert P places = All (λ p. (d : CertNodeForm) → slice_get cert p ≡ Some d → P d) places
 
+-- what is at the first of the places has P
 abbrev pub FirstKid : List CertNodeForm → (CertNodeForm → Type 0) → List ℕ → Type 0
 FirstKid cert P [] = Unit {0}
 FirstKid cert P (p ∷ places) = (d : CertNodeForm) → slice_get cert p ≡ Some d → P d
 
+-- the one kind of formula whose fulfilment can be put off for ever
 abbrev pub is_until : CoreForm → Bool
 is_until (core_until a b) = true
 is_until _ = false
@@ -46,7 +48,8 @@ pub record IsDead (closure : List CoreForm) (cert : List CertNodeForm) (c : Cert
   pub goes_on : IsTrue (not (is_clash (node_rule closure c.node)))
   pub lower : EachKid cert (λ d. d.rank < c.rank) c.kids
 
--- the node carries the until e, each kid was eliminated before it or waits with it, and the kid in which e is fulfilled was before it
+-- the node carries the until e, each kid was eliminated before it or waits with it, and the kid in which e is fulfilled was before it:
+-- that kid may ask for e again at the next position, and if it might wait too, `always next eventually p` would be eliminated
 pub record Waits (closure : List CoreForm) (cert : List CertNodeForm) (c : CertNodeForm) (e : ℕ) : Type 0 where
   pub until : IsTrue (is_until (formula_at closure e))
   pub carried : IsTrue (carries e c.node)

@@ -23,10 +23,11 @@ pub record HasSize (sizes : List ℕ) (cores : List CoreForm) (size : ℕ) : Typ
   pub are : AreReached sizes cores nodes
   pub all : (n : NodeForm) → IsReached sizes cores n → Contains nodes n
 
--- the size is at most the budget, or over it
+-- the size is at most the budget
 abbrev pub IsWithin : List ℕ → List CoreForm → ℕ → Type 0
 IsWithin sizes cores budget = (size : ℕ) × HasSize sizes cores size × (size ≤ budget)
 
+-- the size is over the budget, shown by more nodes than that
 pub record IsLarger (sizes : List ℕ) (cores : List CoreForm) (budget : ℕ) : Type 0 where
   pub nodes : List NodeForm
   pub more : budget < length nodes
@@ -37,6 +38,7 @@ pub record GraphNodeForm : Type 0 where
   pub node : NodeForm
   pub kids : List ℕ
 
+-- the nodes of a graph, by their places from 0
 abbrev pub nodes_in : List GraphNodeForm → List NodeForm
 nodes_in graph = map (λ g. g.node) graph
 

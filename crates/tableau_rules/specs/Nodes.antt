@@ -16,13 +16,13 @@ pub record NodeForm : Type 0 where
 abbrev pub carries : ℕ → NodeForm → Bool
 carries f n = has_number n.todo f || has_number n.next f
 
--- the formula of the least class, and of these the first
+-- the number of a formula of the least class among f and those of a list, and of these the first
 abbrev pub first_best : List CoreForm → ℕ → List ℕ → ℕ
 first_best closure f [] = f
 first_best closure f (g ∷ gs) =
     first_best closure (if nat_lt (class_of (formula_at closure g)) (class_of (formula_at closure f)) then g else f) gs
 
--- the formula whose turn it is
+-- the formula whose turn it is; the number 0 where there is none to do
 abbrev pub chosen : List CoreForm → List ℕ → ℕ
 chosen closure [] = 0
 chosen closure (f ∷ fs) = first_best closure f fs
@@ -37,6 +37,7 @@ abbrev pub todo_rule : List CoreForm → List ℕ → List ℕ → Rule
 todo_rule closure now [] = step
 todo_rule closure now (f ∷ fs) = rule_of now (formula_at closure (first_best closure f fs))
 
+-- a node clashes where a variable has no index left, and else has the rule of what it is to do
 abbrev pub node_rule : List CoreForm → NodeForm → Rule
 node_rule closure n = if has_empty n.now then clash else todo_rule closure n.now n.todo
 
@@ -46,6 +47,7 @@ met_with x set [] = []
 met_with zero set (s ∷ now) = bit_and s set ∷ now
 met_with (suc x) set (s ∷ now) = s ∷ met_with x set now
 
+-- the sets of now, with each of the given sets met with that of its variable
 abbrev pub met_with_all : List (ℕ × ℕ) → List ℕ → List ℕ
 met_with_all [] now = now
 met_with_all (m ∷ ms) now = met_with_all ms (met_with m.0 m.1 now)
@@ -67,10 +69,12 @@ kid closure n g c = record {
 abbrev pub stepped : List ℕ → NodeForm → NodeForm
 stepped full n = record { todo = n.next; now = full; next = [] }
 
+-- the kids that a rule gives: the node at the next position for a step, else one for each choice
 abbrev pub kids_by : List CoreForm → List ℕ → NodeForm → Rule → List NodeForm
 kids_by closure full n step = stepped full n ∷ []
 kids_by closure full n rule = map (kid closure n (chosen closure n.todo)) (changes rule)
 
+-- the kids of a node, in the order of the choices of its own rule
 abbrev pub kids : List CoreForm → List ℕ → NodeForm → List NodeForm
 kids closure full n = kids_by closure full n (node_rule closure n)
 

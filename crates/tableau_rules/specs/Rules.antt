@@ -8,14 +8,15 @@ pub record Change : Type 0 where
   pub next : List CoreForm
   pub sets : List (ℕ × ℕ)
 
+-- nothing is asked: the formula is true already
 abbrev pub nothing : Change
 nothing = record { todo = []; next = []; sets = [] }
 
--- these now
+-- these to be true now
 abbrev pub adds : List CoreForm → Change
 adds cores = record { todo = cores; next = []; sets = [] }
 
--- one now, and the other at the next position
+-- the first to be true now, and the other at the next position
 abbrev pub waits : CoreForm → CoreForm → Change
 waits a later = record { todo = a ∷ []; next = later ∷ []; sets = [] }
 
@@ -29,7 +30,7 @@ pub data Rule : Type 0 where
   wait_only : (c : Change) → Rule
   fulfil_or_wait : (c d : Change) → Rule
 
--- the choices, the fulfilment before the wait
+-- the choices; of an until the fulfilment comes before the wait, and is known by that place
 abbrev pub changes : Rule → List Change
 changes clash = []
 changes step = []
@@ -39,6 +40,7 @@ changes (fulfil_only c) = c ∷ []
 changes (wait_only c) = c ∷ []
 changes (fulfil_or_wait c d) = c ∷ d ∷ []
 
+-- no choice is left, so that no trace meets the node
 abbrev pub is_clash : Rule → Bool
 is_clash clash = true
 is_clash _ = false
@@ -61,17 +63,19 @@ apart [] x set = false
 apart (s ∷ now) zero set = bit_and s set == 0
 apart (s ∷ now) (suc x) set = apart now x set
 
--- the sets of now alone make the core true, or false
+-- the sets of now alone make the core true
 abbrev pub decided_true : List ℕ → CoreForm → Bool
 decided_true now core_true = true
 decided_true now (lit x set) = inside now x set
 decided_true now _ = false
 
+-- the sets of now alone make the core false
 abbrev pub decided_false : List ℕ → CoreForm → Bool
 decided_false now core_false = true
 decided_false now (lit x set) = apart now x set
 decided_false now _ = false
 
+-- the rule of a core under the sets of now, which may decide an operand already
 abbrev pub rule_of : List ℕ → CoreForm → Rule
 rule_of now core_true = one nothing
 rule_of now core_false = clash
@@ -92,12 +96,13 @@ rule_of now (core_release a b) =
     if decided_false now a then one (waits b (core_release a b)) else
     two (adds (a ∷ b ∷ [])) (waits b (core_release a b))
 
+-- `true` or `false`
 abbrev pub is_constant : CoreForm → Bool
 is_constant core_true = true
 is_constant core_false = true
 is_constant _ = false
 
--- how soon a formula's turn comes: those with one choice first
+-- the class of a formula, and the least has its turn first: 0 without operands, 1 with one choice, 2 where there may be two
 abbrev pub class_of : CoreForm → ℕ
 class_of core_true = 0
 class_of core_false = 0

@@ -39,3 +39,8 @@ without_option (Some x) numbers = without_number x numbers
 -- what is made of a set where one number goes and then two come
 abbrev pub changed : Option ℕ → Option ℕ → Option ℕ → List ℕ → List ℕ
 changed gone first second numbers = with_option second (with_option first (without_option gone numbers))
+
+-- the first of the numbers that the set has
+abbrev pub first_in : List ℕ → List ℕ → Option ℕ
+first_in set [] = None
+first_in set (y ∷ ys) = if has_number set y then Some y else first_in set ys

@@ -7,7 +7,7 @@ use Rattle.tableau_rules.specs.Nodes.{carries, chosen, node_rule}
 use Rattle.tableau_rules.specs.Certificates.{is_until}
 use Rattle.tableau_rules.specs.Graphs.{GraphNodeForm}
 
--- the place is in the set
+-- the place, counted from 0, is in the set
 abbrev pub Stays : List Bool → ℕ → Type 0
 Stays stays place = slice_get stays place ≡ Some true
 

@@ -1,5 +1,5 @@
 -- Turns over numbers of a table: the rules over formulas that they stand for.
-use Rattle.std.specs.Prelude.{ℕ, ◌<◌, List, [], ◌∷◌, map}
+use Rattle.std.specs.Prelude.{◌≡◌, ℕ, ◌<◌, List, [], ◌∷◌, map, length}
 use Rattle.state_space.specs.declared.values.Values.{Values}
 use Rattle.bound_unfolding.specs.CoreForm.{CoreForm}
 use Rattle.formula_table.specs.Closures.{formula_at}
@@ -9,7 +9,7 @@ use Rattle.tableau_rules.specs.declared.effect.Effect.TheVariants.{Nothing, Adds
 use Rattle.tableau_rules.specs.declared.effect.Turn.{Turn}
 use Rattle.tableau_rules.specs.declared.effect.Turn.TheVariants.{Clash, Step, One, Two, FulfilOnly, WaitOnly, FulfilOrWait}
 
--- the sets as numbers
+-- the sets of all variables, as the numbers whose bits are their indexes
 abbrev pub sets_of : List Values → List ℕ
 sets_of now = map (λ set. set.0) now
 

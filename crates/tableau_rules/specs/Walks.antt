@@ -11,6 +11,7 @@ use Rattle.tableau_rules.specs.Nodes.{NodeForm, carries, chosen, node_rule, kids
 use Rattle.tableau_rules.specs.Certificates.{is_until}
 use Rattle.tableau_rules.specs.Queries.{MeetsAll}
 
+-- what stands past the end of a list of nodes
 abbrev pub no_node : NodeForm
 no_node = record { todo = []; now = []; next = [] }
 
@@ -41,6 +42,7 @@ pub record IsClosedWalk (sizes : List ℕ) (cores : List CoreForm) (stem loop : 
 abbrev pub least_index : ℕ → ℕ
 least_index set = trailing_zeros w64 set
 
+-- whether a list has no number; a node with no formula to do steps
 abbrev pub is_empty : List ℕ → Bool
 is_empty [] = true
 is_empty (x ∷ xs) = false

@@ -1,6 +1,7 @@
 -- Sets of numbers as words of 64 bits.
 use Rattle.std.specs.Int.{bit_at}
-use Rattle.std.specs.Prelude.{ℕ, zero, suc, ◌<◌, ◌≤◌, ◌-◌, ◌*◌, ◌/◌, ◌%◌, List, [], ◌∷◌, Bool, false, Option, Some, None, not, ◌||◌, ◌&&◌, if◌then◌else◌, ◌==◌, length, slice_index}
+use Rattle.std.specs.Int.RustNames.{bit_or}
+use Rattle.std.specs.Prelude.{ℕ, zero, suc, ◌<◌, ◌≤◌, ◌-◌, ◌*◌, ◌/◌, ◌%◌, ◌^◌, List, [], ◌∷◌, Bool, false, Option, Some, None, not, ◌||◌, ◌&&◌, if◌then◌else◌, ◌==◌, length, slice_index}
 
 -- whether the words have the bit of the number x
 abbrev pub has_bit : List ℕ → ℕ → Bool
@@ -32,3 +33,16 @@ IsTrimmed words = 0 < length words → 0 < slice_index words (length words - 1)
 pub record IsFit (words : List ℕ) : Type 0 where
   pub trimmed : IsTrimmed words
   pub few : length words ≤ 1024
+
+-- ---- words from numbers
+-- the words with this bit of the word at the place
+abbrev pub with_bit : ℕ → ℕ → List ℕ → List ℕ
+with_bit zero bit [] = 2 ^ bit ∷ []
+with_bit zero bit (w ∷ ws) = bit_or w (2 ^ bit) ∷ ws
+with_bit (suc at) bit [] = 0 ∷ with_bit at bit []
+with_bit (suc at) bit (w ∷ ws) = w ∷ with_bit at bit ws
+
+-- the fewest words that have the bits of the numbers, and no other
+unfoldable pub words_of : List ℕ → List ℕ
+words_of [] = []
+words_of (x ∷ xs) = with_bit (x / 64) (x % 64) (words_of xs)

@@ -3,7 +3,7 @@
 ghost use Rattle.std.specs.Prelude.{All, IfOk};
 ghost use Rattle.state_space.specs.Spaces.{sizes};
 ghost use Rattle.tableau_rules.specs.Queries.{IsOver};
-ghost use Rattle.tableau_rules.specs.QuerySeen.{cores_in};
+ghost use Rattle.tableau_rules.specs.QueryView.{cores_in};
 ghost use Rattle.tableau_rules.specs.Answers.{IsValidAnswer};
 
 use crate::certificate::Cert;

@@ -1,16 +1,19 @@
-//! Sets of small numbers, for whoever keeps many of them: a bit for each number, and no word more
-//! than the greatest number needs, so that equal sets are equal words. Callers see ascending lists.
+//! Sets of small numbers, for whoever keeps many of them. The plain form is an ascending list
+//! (specs/Sets.antt), and callers see that; kept is a bit for each number, and no word more than
+//! the greatest number needs. So equal sets are equal words, the fewest words with the bits of the
+//! numbers (`words_of` of specs/Words.antt), and a set is compared and hashed by its words. A set
+//! of formulas of a query of f formulas has at most f / 64 words, rounded up.
 
 ghost use Rattle.std.specs.Int.{bit_at};
 ghost use Rattle.std.specs.List.Sorted.{IsStrictlyIncreasing};
-ghost use Rattle.std.specs.Prelude.{◌≡◌, ℕ, ◌+◌, ◌*◌, ◌/◌, ◌^◌, ◌<◌, ◌≤◌, ◌↔◌, ◌⊎◌, IsTrue, false, [], All, OnOk, OnErr, IfSome, IfNone, IfOk, ◌∷◌, MatchOption, length, slice_index, ◌==◌, ◌||◌, ◌&&◌, not, vec_len, nat_eq, flat_map};
+ghost use Rattle.std.specs.Prelude.{◌≡◌, ℕ, ◌+◌, ◌*◌, ◌/◌, ◌^◌, ◌<◌, ◌≤◌, ◌↔◌, ◌⊎◌, IsTrue, false, [], All, OnOk, OnErr, IfSome, IfNone, IfOk, ◌∷◌, MatchOption, length, slice_index, ◌==◌, ◌||◌, ◌&&◌, not, vec_len, nat_eq, fold, flat_map};
 ghost use Rattle.std.specs.Hash as fed;
 ghost use Rattle.std.specs.Cmp.Lexicographic.{pointwise};
 ghost use Rattle.std.specs.Cmp.Rules.{comparing};
 ghost use Rattle.std.proofs.Common.{rules, ap};
 ghost use Rattle.std.proofs.lemmas.Slice.Eq.{bytes_eq-Decides};
-ghost use Rattle.tableau_rules.specs.Sets.{has_number, with_number, without_number, numbers_from, least_from, changed};
-ghost use Rattle.tableau_rules.specs.Words.{has_bit, numbers_of, is_given, bit_after, IsTrimmed};
+ghost use Rattle.tableau_rules.specs.Sets.{has_number, with_number, without_number, numbers_from, least_from, first_in, changed};
+ghost use Rattle.tableau_rules.specs.Words.{has_bit, numbers_of, words_of, is_given, bit_after, IsTrimmed};
 
 use source_sink::Memory;
 use std::alloc::Global;
@@ -138,6 +141,35 @@ fn least_in(words: &[u64], from: u16) -> Option<u16>
     None
 }
 
+// The least number of the word at this place that both have.
+fn least_of_both(a: &[u64], b: &[u64], at: usize) -> Option<u16>
+    requires a { at < length a.now }
+    requires b { at < length b.now }
+    requires few { length a.now ≤ 1024 }
+    ensures some { IfSome result (λ y. (64 * at ≤ y) × (y < 64 * at + 64) × IsTrue (has_bit a.now y && has_bit b.now y)
+        × ((z : ℕ) → 64 * at ≤ z → z < y → (has_bit a.now z && has_bit b.now z) ≡ false)) }
+    ensures none { IfNone result
+        ((z : ℕ) → 64 * at ≤ z → z < 64 * at + 64 → (has_bit a.now z && has_bit b.now z) ≡ false) }
+{
+    match least_bit(a[at] & b[at], 0) {
+        Some(bit) => Some(64 * at as u16 + bit as u16),
+        None => None,
+    }
+}
+
+// The least number that both have.
+fn first_of_both(a: &[u64], b: &[u64]) -> Option<u16>
+    requires { length a.now ≤ 1024 }
+    ensures { result ≡ first_in (numbers_of b.now) (numbers_of a.now) }
+{
+    for at in 0..a.len().min(b.len()) {
+        if let Some(number) = least_of_both(a, b, at) {
+            return Some(number);
+        }
+    }
+    None
+}
+
 fn equal_words(a: &[u64], b: &[u64]) -> bool
     ensures { IsTrue result ↔ (a.now ≡ b.now) }
 {
@@ -247,6 +279,16 @@ fn is_after(
     true
 }
 
+// Feeds a hasher the words, which are those of their numbers.
+fn feed<H: Hasher>(words: &[u64], state: &mut H)
+    requires { IsTrimmed words.now }
+    ensures fed { state.new ≡ fold H.write state.old (flat_map fed.u64 (words_of (numbers_of words.now))) }
+{
+    'words: for word in words {
+        state.write_u64(*word);
+    }
+}
+
 impl Bits {
     /// The empty set. It takes no memory.
     pub fn new(alloc: Global) -> Bits
@@ -295,6 +337,13 @@ impl Bits {
         least_in(&self.words, from)
     }
 
+    /// The least number that both sets have.
+    pub fn first_in(&self, other: &Bits) -> Option<u16>
+        ensures { result ≡ first_in other.now self.now }
+    {
+        first_of_both(&self.words, &other.words)
+    }
+
     /// Whether both sets have the same numbers.
     pub fn same(&self, other: &Bits) -> bool
         ensures { IsTrue result ↔ (self.now ≡ other.now) }
@@ -309,6 +358,23 @@ impl Bits {
         Ok(Bits {
             words: Vec::from_slice(alloc, &self.words)?,
         })
+    }
+
+    /// Makes this the empty set. The words keep their place in memory.
+    pub fn clear(&mut self)
+        ensures { self.new ≡ [] }
+    {
+        self.words.clear();
+    }
+
+    /// Makes this the other set. The words keep their place in memory, where there is room.
+    pub fn copy(&mut self, other: &Bits) -> Result<(), Memory>
+        ensures { OnOk result (self.new ≡ other.now) }
+    {
+        self.words.clear();
+        self.words.reserve_exact(other.words.len())?;
+        self.words.extend_from_slice(&other.words)?;
+        Ok(())
     }
 
     /// Whether this is the old set after a change: one number taken out, then two put in, where
@@ -340,19 +406,13 @@ impl Eq for Bits {
     ghost laws = { Prim.search (comparing, rules) };
 }
 
+// The words alone: how many they are is known from them, since the last is not 0.
 impl Hash for Bits {
-    ghost hash_input = { λ s. flat_map fed.u16 s };
+    ghost hash_input = { λ s. flat_map fed.u64 (words_of s) };
 
-    ghost respects_eq = { λ a b h. ap (flat_map fed.u16) ((bytes_eq-Decides a b).0 h) };
+    ghost respects_eq = { λ a b h. ap (λ s. flat_map fed.u64 (words_of s)) ((bytes_eq-Decides a b).0 h) };
 
     fn hash<H: Hasher>(&self, state: &mut H) {
-        let mut from = 0;
-        'numbers: while let Some(number) = self.least_from(from) {
-            state.write_u16(number);
-            if number == u16::MAX {
-                return;
-            }
-            from = number + 1;
-        }
+        feed(&self.words, state);
     }
 }

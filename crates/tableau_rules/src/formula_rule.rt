@@ -114,7 +114,8 @@ fn or_rule(table: &Table, now: &[Values], a: FormulaId, b: FormulaId) -> Turn
     }
 }
 
-// The rule of `id`, which is `a until b`.
+// The rule of `id`, which is `a until b`. The kid in which it is fulfilled comes first: links and
+// certificates know it by that place alone.
 fn until_rule(table: &Table, now: &[Values], id: FormulaId, a: FormulaId, b: FormulaId) -> Turn
     requires inside { id.0 < length (closure_in table.now) }
     requires first { a.0 < length (closure_in table.now) }

@@ -1,20 +1,25 @@
-//! The kids of a node: made, or told from any other node. To tell takes no memory.
+//! The kids of a node: made, or told from any other node. The plain form is `kids` of
+//! specs/Nodes.antt, the rule over trees, and each clause says that a kid is equal to the one
+//! there. A kid is written into a node that is there already, so that making it takes memory only
+//! where that has too little; to tell takes none. Measured as part of exploring: 169,339 nodes in
+//! 0.20 s (docs/ARCHITECTURE.md).
 
-ghost use Rattle.std.specs.Prelude.{◌≡◌, ℕ, ◌<◌, ◌↔◌, IsTrue, List, [], ◌∷◌, length, map, slice_get, Some, IfOk, OnOk};
+ghost use Rattle.std.specs.Prelude.{◌≡◌, ℕ, ◌<◌, ◌↔◌, IsTrue, List, [], ◌∷◌, length, map, slice_get, Some, OnOk};
 ghost use Rattle.formula_table.specs.Tables.{closure_in};
 ghost use Rattle.tableau_rules.specs.Sets.{with_option};
 ghost use Rattle.tableau_rules.specs.Nodes.{stepped, kids};
-ghost use Rattle.tableau_rules.specs.NodeSeen.{node_of, AreNumbersBelow};
+ghost use Rattle.tableau_rules.specs.NodeView.{node_of, AreNumbersBelow};
 ghost use Rattle.tableau_rules.specs.Turns.{sets_of, effects_of};
-ghost use Rattle.tableau_rules.specs.KidsSeen.{first_of, second_of, later_of, met_by, set_by, kid_by};
+ghost use Rattle.tableau_rules.specs.NodeTurns.{IsTurnOf};
+ghost use Rattle.tableau_rules.specs.KidsView.{first_of, second_of, later_of, met_by, set_by, kid_by};
 
 use crate::bits::Bits;
 use crate::effect::{Effect, Turn};
+use crate::formulas::Formulas;
 use crate::node::{Node, is_empty, turn};
 use formula_table::{FormulaId, Table};
 use source_sink::Memory;
 use state_space::Values;
-use std::alloc::Global;
 
 // The first formula that an effect adds to those that are to be true now.
 fn first_of(effect: Effect) -> Option<u16>
@@ -69,19 +74,29 @@ fn meet_by(now: &mut Vec<Values>, effect: Effect)
     }
 }
 
-// What an effect makes of a node that works on the formula `gone`.
-fn changed(alloc: Global, node: &Node, gone: FormulaId, effect: Effect) -> Result<Node, Memory>
-    ensures changed { IfOk result (λ k. node_of k ≡ kid_by (node_of node.entry.now) gone.0 effect) }
+// Makes the sets of one node those of another.
+fn copy_sets(now: &mut Vec<Values>, other: &[Values]) -> Result<(), Memory>
+    ensures copied { OnOk result (now.new.items ≡ other.now) }
 {
-    let mut todo = node.todo.clone(alloc)?;
-    todo.remove(gone.0);
-    add_option(&mut todo, first_of(effect))?;
-    add_option(&mut todo, second_of(effect))?;
-    let mut now = Vec::from_slice(alloc, &node.now)?;
-    meet_by(&mut now, effect);
-    let mut next = node.next.clone(alloc)?;
-    add_option(&mut next, later_of(effect))?;
-    Ok(Node { todo, now, next })
+    now.clear();
+    now.reserve_exact(other.len())?;
+    now.extend_from_slice(other)?;
+    Ok(())
+}
+
+// Makes the kid what an effect makes of a node that works on the formula `gone`.
+fn change(node: &Node, gone: FormulaId, effect: Effect, kid: &mut Node) -> Result<(), Memory>
+    ensures changed { OnOk result (node_of kid.new ≡ kid_by (node_of node.entry.now) gone.0 effect) }
+{
+    kid.todo.copy(&node.todo)?;
+    kid.todo.remove(gone.0);
+    add_option(&mut kid.todo, first_of(effect))?;
+    add_option(&mut kid.todo, second_of(effect))?;
+    copy_sets(&mut kid.now, &node.now)?;
+    meet_by(&mut kid.now, effect);
+    kid.next.copy(&node.next)?;
+    add_option(&mut kid.next, later_of(effect))?;
+    Ok(())
 }
 
 // What an effect makes of the set of the variable at this place.
@@ -125,14 +140,14 @@ fn is_changed(node: &Node, gone: FormulaId, effect: Effect, other: &Node) -> boo
         && is_met_by(effect, &node.now, &other.now)
 }
 
-// The node that a step leads to, where `full` has all indexes of each variable.
-fn stepped(alloc: Global, full: &[Values], node: &Node) -> Result<Node, Memory>
-    ensures stepped { IfOk result (λ k. node_of k ≡ stepped (sets_of full.now) (node_of node.entry.now)) }
+// Makes the kid the node that a step leads to, where `full` has all indexes of each variable.
+fn step(full: &[Values], node: &Node, kid: &mut Node) -> Result<(), Memory>
+    ensures stepped { OnOk result (node_of kid.new ≡ stepped (sets_of full.now) (node_of node.entry.now)) }
 {
-    let todo = node.next.clone(alloc)?;
-    let now = Vec::from_slice(alloc, full)?;
-    let next = Bits::new(alloc);
-    Ok(Node { todo, now, next })
+    kid.todo.copy(&node.next)?;
+    copy_sets(&mut kid.now, full)?;
+    kid.next.clear();
+    Ok(())
 }
 
 /// Whether the variables have the same sets.
@@ -177,22 +192,24 @@ fn is_step(turn: Turn) -> bool
     matches!(turn, Turn::Step)
 }
 
-/// The node's kid of this number, where `full` has all indexes of each variable.
-pub(crate) fn kid_of(
-    alloc: Global,
+/// Makes a node the kid of this number of another, whose turn and formula are given. `full` has all
+/// indexes of each variable.
+pub(crate) fn make_kid_of(
     table: &Table,
     full: &[Values],
     node: &Node,
+    turn: Turn,
+    id: FormulaId,
     which: u8,
-) -> Result<Node, Memory>
-    requires todo { AreNumbersBelow (length (closure_in table.now)) node.now.todo }
+    kid: &mut Node,
+) -> Result<(), Memory>
+    requires turn { IsTurnOf (closure_in table.now) (node_of node.now) turn id.0 }
     requires which { which < length (kids (closure_in table.now) (sets_of full.now) (node_of node.now)) }
-    ensures kid { IfOk result (λ k. slice_get (kids (closure_in table.now) (sets_of full.now) (node_of node.entry.now)) which ≡ Some (node_of k)) }
+    ensures kid { OnOk result (slice_get (kids (closure_in table.now) (sets_of full.now) (node_of node.entry.now)) which ≡ Some (node_of kid.new)) }
 {
-    let (turn, id) = turn(table, node);
     match effect_at(turn, which) {
-        Some(effect) => changed(alloc, node, id, effect),
-        None => stepped(alloc, full, node),
+        Some(effect) => change(node, id, effect, kid),
+        None => step(full, node, kid),
     }
 }
 
@@ -220,16 +237,16 @@ fn is_made(node: &Node, id: FormulaId, turn: Turn, which: u8, other: &Node) -> b
 /// Whether another node is the node's kid of this number. A number that the kids do not reach has
 /// none.
 pub(crate) fn is_kid_of(
-    table: &Table,
+    formulas: &Formulas,
     full: &[Values],
     node: &Node,
     which: u8,
     other: &Node,
 ) -> bool
-    requires { AreNumbersBelow (length (closure_in table.now)) node.now.todo }
-    ensures kid { IsTrue result ↔ (slice_get (kids (closure_in table.now) (sets_of full.now) (node_of node.entry.now)) which ≡ Some (node_of other.entry.now)) }
+    requires { AreNumbersBelow (length (closure_in formulas.now.table)) node.now.todo }
+    ensures kid { IsTrue result ↔ (slice_get (kids (closure_in formulas.now.table) (sets_of full.now) (node_of node.entry.now)) which ≡ Some (node_of other.entry.now)) }
 {
-    let (turn, id) = turn(table, node);
+    let (turn, id) = turn(formulas, node);
     if is_step(turn) {
         is_only(full, node, which, other)
     } else {

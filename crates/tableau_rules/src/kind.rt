@@ -1,4 +1,5 @@
-//! The kind of a node's rule.
+//! The kind of a node's rule, for those who ask what comes of a node without making a kid: how many
+//! kids it has, and whether an until is fulfilled in the first.
 
 ghost use Rattle.std.specs.Prelude.{◌≡◌};
 ghost use Rattle.tableau_rules.specs.Kinds.{kid_count_of};

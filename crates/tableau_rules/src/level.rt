@@ -1,19 +1,22 @@
 //! Levels of places towards the fulfilment of an until. A place with a level leads to a fulfilment
-//! among the living, and one without leads to none, whatever path is taken.
+//! among the living, and one without leads to none, whatever path is taken: the plain form is the
+//! path itself (`ComesTo` of specs/Levels.antt). It takes as many passes as levels need to settle,
+//! few in practice, as a pass goes from the last place to the first and most kids stand behind
+//! their node.
 
 ghost use Rattle.std.specs.Prelude.{◌≡◌, ◌<◌, ◌≤◌, ◌^◌, length, IfOk};
 ghost use Rattle.std.specs.List.{AllByRecursion};
 ghost use Rattle.tableau_rules.specs.Links.{kids_of, fulfils_at, InRange};
 ghost use Rattle.tableau_rules.specs.Levels.{head_is, some_is, alive_at, levelled_at, can_go, Levelling, HasLevels};
 
-use crate::link::{Kids, Link};
+use crate::edges::{Edges, Kids};
 use source_sink::Memory;
 use std::alloc::Global;
 
 /// Whether the until is fulfilled in the first kid of the node at the place. A place past the last
 /// fulfils none.
 #[tactic(auto, unfolding(crate::specs::Links::fulfils_at))]
-pub fn does_fulfil(links: &[Link], until: u16, place: usize) -> bool
+pub fn does_fulfil(links: &[Edges], until: u16, place: usize) -> bool
     ensures { result ≡ fulfils_at links.now until place }
 {
     match links.get(place) {
@@ -54,7 +57,7 @@ fn is_some_levelled(kids: Kids, alive: &[bool], levels: &[u32], count: u32) -> b
 }
 
 // Whether the place can take a level.
-fn can_take(links: &[Link], until: u16, alive: &[bool], levels: &[u32], place: usize) -> bool
+fn can_take(links: &[Edges], until: u16, alive: &[bool], levels: &[u32], place: usize) -> bool
     requires inside { place < length links.now }
     requires few { length links.now < 2 ^ 32 }
     requires alive { length alive.now ≡ length links.now }
@@ -68,8 +71,9 @@ fn can_take(links: &[Link], until: u16, alive: &[bool], levels: &[u32], place: u
             || is_some_levelled(kids, alive, levels, links.len() as u32))
 }
 
-// One pass, the last place first: each that can take a level takes it. Answers how many are without.
-fn sweep(links: &[Link], until: u16, alive: &[bool], levels: &mut [u32], left: u32) -> u32
+// One pass, the last place first: each that can take a level takes it, one of its own above all
+// that are given, so that the way down is lower at each step. Answers how many are without.
+fn sweep(links: &[Edges], until: u16, alive: &[bool], levels: &mut [u32], left: u32) -> u32
     requires few { length links.now < 2 ^ 32 }
     requires alive { length alive.now ≡ length links.now }
     requires in_range { InRange links.now }
@@ -93,7 +97,12 @@ fn sweep(links: &[Link], until: u16, alive: &[bool], levels: &mut [u32], left: u
 /// kid: it fulfils so itself, or some living kid has a lower level. The level of each other place is
 /// the number of places, or more. The kids of each place are places, and `alive` has one test for
 /// each. It fails only where memory does.
-pub fn levels(alloc: Global, links: &[Link], until: u16, alive: &[bool]) -> Result<Vec<u32>, Memory>
+pub fn levels(
+    alloc: Global,
+    links: &[Edges],
+    until: u16,
+    alive: &[bool],
+) -> Result<Vec<u32>, Memory>
     requires few { length links.now < 2 ^ 32 }
     requires alive { length alive.now ≡ length links.now }
     requires in_range { InRange links.now }

@@ -6,14 +6,15 @@
 mod answer;
 mod bits;
 mod certificate;
+mod edges;
 mod effect;
 mod formula_rule;
+mod formulas;
 mod graph;
 mod kids;
 mod kind;
 mod law;
 mod level;
-mod link;
 mod node;
 mod query;
 mod tableau;
@@ -21,22 +22,13 @@ mod tableau;
 pub use answer::{Answer, Answerer};
 pub use bits::Bits;
 pub use certificate::{Cert, CertNode, Mark, Reason};
+pub use edges::{Edges, Kids, does_carry, links_of};
 pub use graph::{Graph, GraphNode};
 pub use kind::RuleKind;
 pub use law::{
     law_of_carrying, law_of_certificates, law_of_nodes, law_of_sizes, law_of_the_rule, law_of_walks,
 };
 pub use level::{does_fulfil, levels};
-pub use link::{Kids, Link, does_carry, links_of};
 pub use node::Node;
 pub use query::Query;
-pub use tableau::{is_kid, is_root, kid, root, rule};
-
-#[cfg(test)]
-mod effect_tests;
-#[cfg(test)]
-mod kids_tests;
-#[cfg(test)]
-mod query_tests;
-#[cfg(test)]
-mod tests;
+pub use tableau::{NodeTurn, is_kid, is_root, kid, make_kid, root, rule, turn};

@@ -2,7 +2,7 @@
 //! closure of its cores as a table, in which each formula has its number, and the cores' numbers.
 
 ghost use Rattle.std.specs.Prelude.{◌≡◌, ◌≤◌, ◌<◌, ◌↔◌, IsTrue, OnOk, IfOk, [], length, map};
-ghost use Rattle.bound_unfolding.specs.CoreSeen.{core_tree_of};
+ghost use Rattle.bound_unfolding.specs.CoreView.{core_tree_of};
 ghost use Rattle.formula_table.specs.Closures.{closure_of, formula_at, with_core};
 ghost use Rattle.formula_table.specs.Tables.{closure_in};
 ghost use Rattle.tableau_rules.specs.Certificates.{is_until};
@@ -10,6 +10,7 @@ ghost use Rattle.tableau_rules.specs.Nodes.{with_numbers_of};
 ghost use Rattle.tableau_rules.specs.SameCores.{are_same};
 
 use crate::bits::Bits;
+use crate::formulas::Formulas;
 use bound_unfolding::Core;
 use formula_table::{FormulaId, PutRefusal, Shape, Table};
 use source_sink::Memory;
@@ -20,10 +21,10 @@ use std::alloc::Global;
 pub struct Query {
     cores: Vec<Core>,
     // The closure of the cores, in their order.
-    table: Table,
+    formulas: Formulas,
     // The numbers of the cores.
     start: Bits,
-    pub ghost closed: { IsTrue (are_same (closure_in table) (closure_of (map core_tree_of cores.items))) },
+    pub ghost closed: { IsTrue (are_same (closure_in formulas.table) (closure_of (map core_tree_of cores.items))) },
     pub ghost started: { start ≡ with_numbers_of (closure_of (map core_tree_of cores.items)) (map core_tree_of cores.items) [] },
 }
 
@@ -80,7 +81,7 @@ fn are_same_cores(a: &[Core], b: &[Core]) -> bool
 }
 
 impl Query {
-    ghost use Rattle.tableau_rules.specs.QuerySeen.{cores_in, total_nodes};
+    ghost use Rattle.tableau_rules.specs.QueryView.{cores_in, total_nodes};
 
     /// The query of these cores, which have at most 4,096 nodes in all.
     pub fn new(alloc: Global, cores: Vec<Core>) -> Result<Query, Memory>
@@ -88,9 +89,10 @@ impl Query {
         ensures cores { IfOk result (λ q. cores_in q ≡ map core_tree_of cores.items) }
     {
         let (table, start) = closure_and_numbers(alloc, &cores)?;
+        let formulas = Formulas::new(alloc, table)?;
         Ok(Query {
             cores,
-            table,
+            formulas,
             start,
         })
     }
@@ -99,7 +101,7 @@ impl Query {
     pub fn len(&self) -> u16
         ensures { result ≡ length (closure_of (cores_in self.now)) }
     {
-        self.table.len()
+        self.formulas.table.len()
     }
 
     /// Whether the formula of a number below the length is an until.
@@ -107,7 +109,7 @@ impl Query {
         requires { number < length (closure_of (cores_in self.now)) }
         ensures { result ≡ is_until (formula_at (closure_of (cores_in self.now)) number) }
     {
-        is_until(&self.table, FormulaId(number))
+        is_until(&self.formulas.table, FormulaId(number))
     }
 
     /// Whether both queries have the same cores, in the same order.
@@ -118,10 +120,10 @@ impl Query {
     }
 
     /// The formulas of the query.
-    pub fn table(&self) -> &Table
-        ensures { closure_in result.now ≡ closure_of (cores_in self.now) }
+    pub(crate) fn formulas(&self) -> &Formulas
+        ensures { closure_in result.now.table ≡ closure_of (cores_in self.now) }
     {
-        &self.table
+        &self.formulas
     }
 
     /// The numbers of the cores, which are what is to be true at first.

@@ -4,8 +4,9 @@ use Rattle.std.specs.Prelude.{◌&&◌}
 use Rattle.std.specs.Int.{bit_at}
 use Rattle.temporal_logic.specs.Ltl.{Ltl, truth, falsity, flag, compares, among, relates, neg, conj, disj, implies, iff, entails, next, eventually, always, until, unless, release, eventually_within, always_within, until_within, unless_within, release_within}
 use Rattle.temporal_logic.specs.Shapes.{is_state_of, VariablesBelow}
-use Rattle.temporal_logic.specs.Truth.{Trace, Stands, Truth}
+use Rattle.temporal_logic.specs.Truth.{Trace, Compares, Truth}
 use Rattle.temporal_logic.proofs.Equivalences.{iff_refl, iff_sym, iff_trans, not_iff, and_iff, or_iff, to_iff, iff_iff, value_iff, sometime_iff, ever_iff, between_iff, some_between_iff, until_iff, releases_iff, until_before_iff, releases_before_iff}
+use Rattle.std.proofs.lemmas.Bool.{and_parts}
 
 values_iff : (P : ℕ → ℕ → Type 0) {a b c d : ℕ} → a ≡ b → c ≡ d → P a c ↔ P b d
 values_iff P {a} {b} {c} {d} e f = iff_trans (value_iff (λ v. P v c) e) (value_iff (λ v. P b v) f)
@@ -20,9 +21,9 @@ module _ (n : ℕ) (t u : Trace) (same : (i x : ℕ) → x < n → t i x ≡ u i
   truth_below truth v i = iff_refl
   truth_below falsity v i = iff_refl
   truth_below (flag x) v i = value_iff (λ w. w ≡ 1) (same i x v)
-  truth_below (compares x r w) v i = value_iff (λ z. Stands r z w) (same i x v)
+  truth_below (compares x r w) v i = value_iff (λ z. Compares r z w) (same i x v)
   truth_below (among x set) v i = value_iff (λ w. bit_at set w ≡ 1) (same i x v)
-  truth_below (relates x r y) v i = values_iff (Stands r) (same i x v.0) (same i y v.1)
+  truth_below (relates x r y) v i = values_iff (Compares r) (same i x v.0) (same i y v.1)
   truth_below (neg a) v i = not_iff (truth_below a v i)
   truth_below (conj a b) v i = and_iff (truth_below a v.0 i) (truth_below b v.1 i)
   truth_below (disj a b) v i = or_iff (truth_below a v.0 i) (truth_below b v.1 i)
@@ -47,10 +48,6 @@ module _ (n : ℕ) (t u : Trace) (same : (i x : ℕ) → x < n → t i x ≡ u i
       releases_before_iff (Truth t a) (Truth t b) (Truth u a) (Truth u b) (truth_below a v.0) (truth_below b v.1) i (i + d + 1)
 
 -- ---- state formulas
-both_true : (a b : Bool) → (a && b) ≡ true → (a ≡ true) × (b ≡ true)
-both_true true b h = (refl, h)
-both_true false b h = absurd (cc)
-
 -- a state formula is true where it is on the trace that stays at the values there
 pub state_stays : (f : Ltl) → is_state_of f ≡ true → (t : Trace) (i : ℕ) → Truth t f i ↔ Truth (λ k. t i) f 0
 state_stays truth s t i = iff_refl
@@ -61,13 +58,13 @@ state_stays (among x set) s t i = iff_refl
 state_stays (relates x r y) s t i = iff_refl
 state_stays (neg a) s t i = not_iff (state_stays a s t i)
 state_stays (conj a b) s t i =
-    let both = both_true (is_state_of a) (is_state_of b) s in and_iff (state_stays a both.0 t i) (state_stays b both.1 t i)
+    let both = and_parts (is_state_of a) (is_state_of b) s in and_iff (state_stays a both.0 t i) (state_stays b both.1 t i)
 state_stays (disj a b) s t i =
-    let both = both_true (is_state_of a) (is_state_of b) s in or_iff (state_stays a both.0 t i) (state_stays b both.1 t i)
+    let both = and_parts (is_state_of a) (is_state_of b) s in or_iff (state_stays a both.0 t i) (state_stays b both.1 t i)
 state_stays (implies a b) s t i =
-    let both = both_true (is_state_of a) (is_state_of b) s in to_iff (state_stays a both.0 t i) (state_stays b both.1 t i)
+    let both = and_parts (is_state_of a) (is_state_of b) s in to_iff (state_stays a both.0 t i) (state_stays b both.1 t i)
 state_stays (iff a b) s t i =
-    let both = both_true (is_state_of a) (is_state_of b) s in iff_iff (state_stays a both.0 t i) (state_stays b both.1 t i)
+    let both = and_parts (is_state_of a) (is_state_of b) s in iff_iff (state_stays a both.0 t i) (state_stays b both.1 t i)
 state_stays f s t i = absurd (cc)
 
 pub state_truth : (f : Ltl) → is_state_of f ≡ true → (t u : Trace) (i j : ℕ) → ((x : ℕ) → t i x ≡ u j x) → Truth t f i ↔ Truth u f j

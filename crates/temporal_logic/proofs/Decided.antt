@@ -3,12 +3,12 @@ use Rattle.std.proofs.Common.{◌≡◌, ℕ, suc, ◌+◌, ◌<◌, ◌⊎◌, 
 use Rattle.std.specs.Prelude.{max}
 use Rattle.std.specs.Int.{bit_at}
 use Rattle.temporal_logic.specs.Ltl.{Relation, is_same, is_other, is_below, is_at_most, is_above, is_at_least, Ltl, truth, falsity, flag, compares, among, relates, neg, conj, disj, implies, iff, entails, next, eventually, always, until, unless, release, eventually_within, always_within, until_within, unless_within, release_within}
-use Rattle.temporal_logic.specs.Truth.{Trace, Stands, Truth, Sometime, Ever, Between, SomeBetween, HoldsUntil, Releases, HoldsUntilBefore, ReleasesBefore}
+use Rattle.temporal_logic.specs.Truth.{Trace, Compares, Truth, Sometime, Ever, Between, SomeBetween, HoldsUntil, Releases, HoldsUntilBefore, ReleasesBefore}
 use Rattle.temporal_logic.specs.Traces.{Loops}
 use Rattle.temporal_logic.proofs.Equivalences.{iff_sym}
 use Rattle.temporal_logic.proofs.Search.{dec_by, dec_not, dec_and, dec_or, dec_to, dec_iff, dec_le, dec_eq, dec_some_between, dec_between, Repeats, some_within, ever_within, until_within_turn, releases_within_turn, repeats_not, repeats_and, repeats_or, repeats_to, repeats_iff, repeats_next, repeats_sometime, repeats_ever, repeats_until, repeats_releases, repeats_some_within, repeats_each_within, repeats_until_within, repeats_releases_within}
 
-pub dec_stands : (r : Relation) (a b : ℕ) → Dec (Stands r a b)
+pub dec_stands : (r : Relation) (a b : ℕ) → Dec (Compares r a b)
 dec_stands is_same a b = dec_eq a b
 dec_stands is_other a b = dec_not (dec_eq a b)
 dec_stands is_below a b = dec_le (suc a) b
@@ -56,9 +56,9 @@ module _ (t : Trace) (p c : ℕ) (loops : Loops t p c) where
   truth_repeats truth = record { ahead = λ i l h. h; back = λ i l h. h }
   truth_repeats falsity = record { ahead = λ i l h. h; back = λ i l h. h }
   truth_repeats (flag x) = repeats_value (λ v. v ≡ 1) x
-  truth_repeats (compares x r v) = repeats_value (λ w. Stands r w v) x
+  truth_repeats (compares x r v) = repeats_value (λ w. Compares r w v) x
   truth_repeats (among x set) = repeats_value (λ v. bit_at set v ≡ 1) x
-  truth_repeats (relates x r y) = repeats_values (Stands r) x y
+  truth_repeats (relates x r y) = repeats_values (Compares r) x y
   truth_repeats (neg a) = repeats_not p c loops.turns (Truth t a) (truth_repeats a)
   truth_repeats (conj a b) = repeats_and p c loops.turns (Truth t a) (Truth t b) (truth_repeats a) (truth_repeats b)
   truth_repeats (disj a b) = repeats_or p c loops.turns (Truth t a) (Truth t b) (truth_repeats a) (truth_repeats b)

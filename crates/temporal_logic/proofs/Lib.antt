@@ -6,3 +6,4 @@ pub mod Fitting
 pub mod Given
 pub mod Agreement
 pub mod Enclosures
+pub mod RowStates

@@ -7,6 +7,7 @@ use Rattle.temporal_logic.specs.Ltl.{Ltl, truth, falsity, flag, compares, among,
 abbrev pub size_at : List RangeForm → ℕ → ℕ
 size_at ranges x = slice_index (map size_of ranges) x
 
+-- each variable has a range, each value and set is of the variable's range, and a variable alone is a truth variable
 abbrev pub Fits : List RangeForm → Ltl → Type 0
 Fits ranges truth = Unit {0}
 Fits ranges falsity = Unit {0}

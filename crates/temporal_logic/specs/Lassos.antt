@@ -1,4 +1,4 @@
--- The trace of a lasso.
+-- Which trace a lasso is: its prefix, and from the end of that on its loop, over and over.
 use Rattle.std.specs.Prelude.{ℕ, List}
 use Rattle.temporal_logic.specs.declared.lasso.Lasso.{Lasso}
 use Rattle.temporal_logic.specs.Truth.{Trace}

@@ -3,6 +3,7 @@ use Rattle.std.specs.Prelude.{ℕ, List, [], Option, None, Some}
 use Rattle.temporal_logic.specs.Ltl.{Ltl, truth, falsity, flag, compares, among, relates, neg, conj, disj, implies, iff, entails, next, eventually, always, until, unless, release, eventually_within, always_within, until_within, unless_within, release_within}
 use Rattle.temporal_logic.specs.Written.{within}
 
+-- from 0, of `entails`, to 7, of what has no operand: the scale by which the written form sets its parentheses
 abbrev pub tightness : Ltl → ℕ
 tightness truth = 7
 tightness falsity = 7

@@ -8,13 +8,13 @@ abbrev pub Trace : Type 0
 Trace = ℕ → ℕ → ℕ
 
 -- a comparison holds of two value indexes
-abbrev pub Stands : Relation → ℕ → ℕ → Type 0
-Stands is_same a b = a ≡ b
-Stands is_other a b = a ≢ b
-Stands is_below a b = a < b
-Stands is_at_most a b = a ≤ b
-Stands is_above a b = b < a
-Stands is_at_least a b = b ≤ a
+abbrev pub Compares : Relation → ℕ → ℕ → Type 0
+Compares is_same a b = a ≡ b
+Compares is_other a b = a ≢ b
+Compares is_below a b = a < b
+Compares is_at_most a b = a ≤ b
+Compares is_above a b = b < a
+Compares is_at_least a b = b ≤ a
 
 -- at some position from i on
 abbrev pub Sometime : (ℕ → Type 0) → ℕ → Type 0
@@ -48,13 +48,14 @@ HoldsUntilBefore n P Q i = SomeBetween (λ j. Q j × Between P i j) i n
 abbrev pub ReleasesBefore : ℕ → (ℕ → Type 0) → (ℕ → Type 0) → ℕ → Type 0
 ReleasesBefore n P Q i = Between (λ j. Q j ⊎ SomeBetween P i j) i n
 
+-- the formula is true at position i of the trace; a bound of d steps reaches from i to i + d
 abbrev pub Truth : Trace → Ltl → ℕ → Type 0
 Truth t truth i = Unit {0}
 Truth t falsity i = ⊥
 Truth t (flag x) i = t i x ≡ 1
-Truth t (compares x r v) i = Stands r (t i x) v
+Truth t (compares x r v) i = Compares r (t i x) v
 Truth t (among x set) i = bit_at set (t i x) ≡ 1
-Truth t (relates x r y) i = Stands r (t i x) (t i y)
+Truth t (relates x r y) i = Compares r (t i x) (t i y)
 Truth t (neg a) i = ¬ (Truth t a i)
 Truth t (conj a b) i = Truth t a i × Truth t b i
 Truth t (disj a b) i = Truth t a i ⊎ Truth t b i

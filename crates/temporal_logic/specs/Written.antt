@@ -5,9 +5,11 @@ use Rattle.state_space.specs.Ranges.{RangeForm, truth_values}
 use Rattle.state_space.specs.ValueTexts.{value_text, set_text}
 use Rattle.temporal_logic.specs.Ltl.{Relation, is_same, is_other, is_below, is_at_most, is_above, is_at_least, Ltl, truth, falsity, flag, compares, among, relates, neg, conj, disj, implies, iff, entails, next, eventually, always, until, unless, release, eventually_within, always_within, until_within, unless_within, release_within}
 
+-- the name of the variable with a number
 abbrev pub name_at : List (List ℕ) → ℕ → List ℕ
 name_at names x = slice_index_or names x []
 
+-- the range of the variable with a number
 abbrev pub range_at : List RangeForm → ℕ → RangeForm
 range_at ranges x = slice_index_or ranges x truth_values
 

@@ -5,7 +5,7 @@ ghost use Rattle.std.specs.Prelude.{◌≡◌, ℕ, ◌++◌, ◌↔◌, Contain
 ghost use Rattle.state_space.specs.Members.{Has};
 ghost use Rattle.temporal_logic.specs.Shapes.{depth_of, is_state_of, variables_of, VariablesBelow};
 ghost use Rattle.temporal_logic.specs.Trees.{relation_of, tree_of};
-ghost use Rattle.temporal_logic.specs.Truth.{Stands};
+ghost use Rattle.temporal_logic.specs.Truth.{Compares};
 
 use source_sink::Memory;
 use state_space::{Values, VarId};
@@ -31,7 +31,7 @@ pub enum Cmp {
 impl Cmp {
     /// Whether two value indexes compare so.
     pub fn stands(self, a: u8, b: u8) -> bool
-        ensures { IsTrue result ↔ Stands (relation_of self) a b }
+        ensures { IsTrue result ↔ Compares (relation_of self) a b }
     {
         match self {
             Cmp::Eq => a == b,
@@ -46,7 +46,7 @@ impl Cmp {
 
 /// A formula of linear temporal logic. A bound counts steps from the formula's own position, and
 /// the position that many steps on is still within it.
-#[derive(Debug, Drop)]
+#[derive(Drop)]
 pub enum Formula {
     /// True everywhere.
     True,
@@ -187,29 +187,25 @@ impl Formula {
             (Formula::Same(x, c, v), Formula::Same(y, d, w)) => x.0 == y.0
                 && *c == *d
                 && v.0 == w.0,
-            (Formula::Not(a), Formula::Not(b)) => a.is_same(b),
-            (Formula::And(a, b), Formula::And(c, d)) => a.is_same(c) && b.is_same(d),
-            (Formula::Or(a, b), Formula::Or(c, d)) => a.is_same(c) && b.is_same(d),
-            (Formula::Implies(a, b), Formula::Implies(c, d)) => a.is_same(c) && b.is_same(d),
-            (Formula::Iff(a, b), Formula::Iff(c, d)) => a.is_same(c) && b.is_same(d),
-            (Formula::Entails(a, b), Formula::Entails(c, d)) => a.is_same(c) && b.is_same(d),
-            (Formula::Next(a), Formula::Next(b)) => a.is_same(b),
-            (Formula::Eventually(a), Formula::Eventually(b)) => a.is_same(b),
-            (Formula::Always(a), Formula::Always(b)) => a.is_same(b),
-            (Formula::Until(a, b), Formula::Until(c, d)) => a.is_same(c) && b.is_same(d),
-            (Formula::Unless(a, b), Formula::Unless(c, d)) => a.is_same(c) && b.is_same(d),
-            (Formula::Release(a, b), Formula::Release(c, d)) => a.is_same(c) && b.is_same(d),
-            (Formula::EventuallyWithin(k, a), Formula::EventuallyWithin(m, b)) => {
+            (Formula::Not(a), Formula::Not(b))
+            | (Formula::Next(a), Formula::Next(b))
+            | (Formula::Eventually(a), Formula::Eventually(b))
+            | (Formula::Always(a), Formula::Always(b)) => a.is_same(b),
+            (Formula::EventuallyWithin(k, a), Formula::EventuallyWithin(m, b))
+            | (Formula::AlwaysWithin(k, a), Formula::AlwaysWithin(m, b)) => {
                 *k == *m && a.is_same(b)
             }
-            (Formula::AlwaysWithin(k, a), Formula::AlwaysWithin(m, b)) => *k == *m && a.is_same(b),
-            (Formula::UntilWithin(k, a, b), Formula::UntilWithin(m, c, d)) => {
-                *k == *m && a.is_same(c) && b.is_same(d)
-            }
-            (Formula::UnlessWithin(k, a, b), Formula::UnlessWithin(m, c, d)) => {
-                *k == *m && a.is_same(c) && b.is_same(d)
-            }
-            (Formula::ReleaseWithin(k, a, b), Formula::ReleaseWithin(m, c, d)) => {
+            (Formula::And(a, b), Formula::And(c, d))
+            | (Formula::Or(a, b), Formula::Or(c, d))
+            | (Formula::Implies(a, b), Formula::Implies(c, d))
+            | (Formula::Iff(a, b), Formula::Iff(c, d))
+            | (Formula::Entails(a, b), Formula::Entails(c, d))
+            | (Formula::Until(a, b), Formula::Until(c, d))
+            | (Formula::Unless(a, b), Formula::Unless(c, d))
+            | (Formula::Release(a, b), Formula::Release(c, d)) => a.is_same(c) && b.is_same(d),
+            (Formula::UntilWithin(k, a, b), Formula::UntilWithin(m, c, d))
+            | (Formula::UnlessWithin(k, a, b), Formula::UnlessWithin(m, c, d))
+            | (Formula::ReleaseWithin(k, a, b), Formula::ReleaseWithin(m, c, d)) => {
                 *k == *m && a.is_same(c) && b.is_same(d)
             }
             _ => false,

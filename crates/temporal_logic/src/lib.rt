@@ -11,6 +11,3 @@ pub use formula::{Cmp, Formula};
 pub use lasso::{Lasso, LassoRefusal};
 pub use law::{law_of_agreement, law_of_decision, law_of_lassos, law_of_traces};
 pub use text::formula_text;
-
-#[cfg(test)]
-mod tests;

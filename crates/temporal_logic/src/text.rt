@@ -11,8 +11,7 @@ ghost use Rattle.temporal_logic.specs.Trees.{relation_of, tree_of};
 ghost use Rattle.temporal_logic.specs.Written.{name_at, range_at, sign, prefixed, joined, written, formula_text as text_of_formula};
 
 use crate::formula::{Cmp, Formula};
-use itoa::Buffer;
-use source_sink::Memory;
+use source_sink::{Memory, put, put_decimal};
 use state_space::{Keyword, Space, Values, VarId};
 use std::alloc::Global;
 
@@ -56,13 +55,6 @@ fn sign(comparison: Cmp) -> &'static [u8]
     }
 }
 
-fn put(out: &mut Vec<u8>, bytes: &[u8]) -> Result<(), Memory>
-    ensures { OnOk result (out.new.items ≡ out.old.items ++ bytes.now) }
-{
-    out.extend_from_slice(bytes)?;
-    Ok(())
-}
-
 // A bound in steps, where there is one.
 fn put_bound(out: &mut Vec<u8>, bound: Option<u8>) -> Result<(), Memory>
     ensures { OnOk result (out.new.items ≡ out.old.items ++ bound_text bound) }
@@ -71,8 +63,7 @@ fn put_bound(out: &mut Vec<u8>, bound: Option<u8>) -> Result<(), Memory>
         None => Ok(()),
         Some(steps) => {
             put(out, b" within ")?;
-            let mut buffer = Buffer::new();
-            put(out, buffer.format(steps).as_bytes())
+            put_decimal(out, u64::from(steps))
         }
     }
 }

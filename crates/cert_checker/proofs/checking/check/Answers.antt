@@ -2,8 +2,8 @@ use Rattle.std.proofs.Common.{true≢false, sym, ap, ◌∙◌}
 use Rattle.std.proofs.lemmas.List.{length-map}
 use Rattle.state_space.specs.Members.{full_of}
 use Rattle.state_space.specs.Spaces.{sizes}
-use Rattle.tableau_rules.specs.QuerySeen.{cores_in}
-use Rattle.tableau_rules.specs.CertSeen.{cert_node_of, cert_of}
+use Rattle.tableau_rules.specs.QueryView.{cores_in}
+use Rattle.tableau_rules.specs.CertView.{cert_node_of, cert_of}
 use Rattle.cert_checker.specs.Entries.{entries_of}
 use Rattle.cert_checker.proofs.Passing.{err_of, exact_of, refuted_of, no_valid, no_root, no_nodes, some_nodes}
 use Rattle.cert_checker.proofs.checking.check.Goals as goal

@@ -4,8 +4,8 @@ use Rattle.state_space.specs.Members.{full_of}
 use Rattle.state_space.specs.Spaces.{sizes}
 use Rattle.formula_table.specs.Closures.{closure_of}
 use Rattle.tableau_rules.specs.Nodes.{root_of}
-use Rattle.tableau_rules.specs.QuerySeen.{cores_in}
-use Rattle.tableau_rules.specs.CertSeen.{cert_node_of}
+use Rattle.tableau_rules.specs.QueryView.{cores_in}
+use Rattle.tableau_rules.specs.CertView.{cert_node_of}
 use Rattle.cert_checker.specs.Entries.{entries_of}
 use Rattle.cert_checker.proofs.Causes.{range_step, range_end, taken, cause_some, drop_map, get_mapped}
 use Rattle.cert_checker.proofs.Validity.{ascending_step}

@@ -2,7 +2,7 @@ use Rattle.std.proofs.Common.{◌≡◌, ℕ, ◌<◌, ◌≤◌, Some}
 use Rattle.std.specs.Prelude.{slice_get}
 use Rattle.state_space.specs.Members.{full_of}
 use Rattle.state_space.specs.Spaces.{sizes}
-use Rattle.tableau_rules.specs.QuerySeen.{cores_in}
+use Rattle.tableau_rules.specs.QueryView.{cores_in}
 use Rattle.tableau_rules.specs.Certificates.{CertNodeForm}
 use Rattle.cert_checker.specs.Entries.{entries_of, fault_in, IsAscending}
 use Rattle.cert_checker.proofs.checking.check_nodes.Given as goal

@@ -1,7 +1,7 @@
 use Rattle.std.proofs.Common.{sym, ◌∙◌, length}
 use Rattle.formula_table.specs.Closures.{closure_of}
-use Rattle.tableau_rules.specs.QuerySeen.{cores_in}
-use Rattle.tableau_rules.specs.NodeSeen.{node_of}
+use Rattle.tableau_rules.specs.QueryView.{cores_in}
+use Rattle.tableau_rules.specs.NodeView.{node_of}
 use Rattle.state_space.specs.Members.{full_of}
 use Rattle.state_space.specs.Spaces.{sizes}
 use Rattle.cert_checker.proofs.Validity.{shaped_todo}

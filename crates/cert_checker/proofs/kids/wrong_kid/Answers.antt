@@ -2,12 +2,12 @@ use Rattle.std.proofs.Common.{◌<◌, ℕ, arith, sym, ◌∙◌, subst, true�
 use Rattle.std.specs.Prelude.{slice_index_or}
 use Rattle.cert_checker.proofs.Causes.{wrong_yes_at, wrong_no, get_mapped}
 use Rattle.tableau_rules.specs.Nodes.{kids}
-use Rattle.tableau_rules.specs.NodeSeen.{node_of}
+use Rattle.tableau_rules.specs.NodeView.{node_of}
 use Rattle.state_space.specs.Members.{full_of}
 use Rattle.state_space.specs.Spaces.{sizes}
-use Rattle.tableau_rules.specs.CertSeen.{cert_node_of}
+use Rattle.tableau_rules.specs.CertView.{cert_node_of}
 use Rattle.formula_table.specs.Closures.{closure_of}
-use Rattle.tableau_rules.specs.QuerySeen.{cores_in}
+use Rattle.tableau_rules.specs.QueryView.{cores_in}
 use Rattle.cert_checker.specs.Entries.{entries_of}
 use Rattle.cert_checker.proofs.kids.wrong_kid.Goals as goal
 

@@ -1,11 +1,11 @@
 use Rattle.std.proofs.Common.{sym, ◌∙◌, not, ◌==◌, arith}
 use Rattle.formula_table.specs.Closures.{closure_of}
 use Rattle.tableau_rules.specs.Nodes.{root_of}
-use Rattle.tableau_rules.specs.NodeSeen.{node_of}
-use Rattle.tableau_rules.specs.QuerySeen.{cores_in}
+use Rattle.tableau_rules.specs.NodeView.{node_of}
+use Rattle.tableau_rules.specs.QueryView.{cores_in}
 use Rattle.state_space.specs.Members.{full_of}
 use Rattle.state_space.specs.Spaces.{sizes}
-use Rattle.tableau_rules.proofs.Lists.{or_right}
+use Rattle.formula_table.proofs.Tests.{or_right}
 use Rattle.cert_checker.specs.declared.why.Why.TheVariants.{NotRoot}
 use Rattle.cert_checker.specs.Causes.{is_same_node}
 use Rattle.cert_checker.proofs.Causes.{unless_yes, root_no, same_node_iff}

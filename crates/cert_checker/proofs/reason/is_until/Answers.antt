@@ -1,6 +1,6 @@
 use Rattle.std.proofs.Common.{arith}
 use Rattle.formula_table.specs.Closures.{closure_of}
-use Rattle.tableau_rules.specs.QuerySeen.{cores_in}
+use Rattle.tableau_rules.specs.QueryView.{cores_in}
 use Rattle.cert_checker.proofs.Shapes.{until_past}
 use Rattle.cert_checker.proofs.reason.is_until.Goals as goal
 

@@ -1,7 +1,7 @@
 use Rattle.std.proofs.Common.{◌++◌, sym, ap, ◌∙◌}
 use Rattle.std.proofs.lemmas.Slice.Eq.{bytes_eq-Decides}
 use Rattle.state_space.specs.Spaces.{sizes}
-use Rattle.tableau_rules.specs.CertSeen.{cert_node_of}
+use Rattle.tableau_rules.specs.CertView.{cert_node_of}
 use Rattle.elimination_cert.specs.CertTexts.{node_text}
 use Rattle.elimination_cert.proofs.ReadSteps.{guess_length, guess_fits, other_node, few_sizes}
 use Rattle.elimination_cert.proofs.read.read_node.Goals as goal

@@ -1,7 +1,7 @@
 use Rattle.std.proofs.Common.{◌≡◌, ◌<◌, ◌≤◌, ◌-◌, ℕ, List, length, map, take, drop, subst, arith}
 use Rattle.std.proofs.lemmas.List.{take_rest, length-map}
 use Rattle.state_space.specs.Spaces.{sizes}
-use Rattle.tableau_rules.specs.CertSeen.{cert_node_of}
+use Rattle.tableau_rules.specs.CertView.{cert_node_of}
 use Rattle.elimination_cert.specs.CertTexts.{node_text, FitsSizes}
 use Rattle.elimination_cert.specs.Lines.{HasNoNode}
 use Rattle.elimination_cert.proofs.ListLaws.{all_of_each}

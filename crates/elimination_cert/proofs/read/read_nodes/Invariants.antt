@@ -1,7 +1,7 @@
 use Rattle.std.proofs.Common.{◌≡◌, ◌++◌, ◌-◌, ◌≤◌, length, map, take}
 use Rattle.std.specs.List.{All, flat_map}
 use Rattle.state_space.specs.Spaces.{sizes}
-use Rattle.tableau_rules.specs.CertSeen.{cert_node_of}
+use Rattle.tableau_rules.specs.CertView.{cert_node_of}
 use Rattle.elimination_cert.specs.CertTexts.{first_line, node_text, FitsSizes}
 use Rattle.elimination_cert.proofs.read.read_nodes.Given as goal
 

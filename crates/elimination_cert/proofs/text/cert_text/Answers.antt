@@ -1,7 +1,7 @@
 use Rattle.std.proofs.Common.{◌≡◌, sym, subst, length, map}
 use Rattle.std.specs.List.{All}
 use Rattle.state_space.specs.Spaces.{sizes}
-use Rattle.tableau_rules.specs.CertSeen.{cert_node_of}
+use Rattle.tableau_rules.specs.CertView.{cert_node_of}
 use Rattle.elimination_cert.proofs.Writing.{node_length}
 use Rattle.elimination_cert.proofs.text.cert_text.Goals as goal
 

@@ -1,7 +1,7 @@
 use Rattle.std.proofs.Common.{◌≡◌, ◌++◌, map, drop}
 use Rattle.std.specs.List.{flat_map}
 use Rattle.state_space.specs.Spaces.{sizes}
-use Rattle.tableau_rules.specs.CertSeen.{cert_node_of, cert_of}
+use Rattle.tableau_rules.specs.CertView.{cert_node_of, cert_of}
 use Rattle.elimination_cert.specs.CertTexts.{node_text, cert_text}
 use Rattle.elimination_cert.proofs.text.cert_text.Given as goal
 

@@ -1,7 +1,7 @@
 use Rattle.std.proofs.Common.{◌≡◌, map, take}
 use Rattle.state_space.specs.Spaces.{sizes}
 use Rattle.temporal_logic.specs.Trees.{tree_of}
-use Rattle.bound_unfolding.specs.CoreSeen.{core_tree_of}
+use Rattle.bound_unfolding.specs.CoreView.{core_tree_of}
 use Rattle.bound_unfolding.specs.Totals.{cores_of}
 use Rattle.entailment.proofs.query.cores.Given as goal
 

@@ -1,6 +1,6 @@
 use Rattle.std.proofs.Common.{◌∙◌}
 use Rattle.std.proofs.lemmas.Result.{IfOk-weaker}
-use Rattle.tableau_rules.specs.QuerySeen.{cores_in}
+use Rattle.tableau_rules.specs.QueryView.{cores_in}
 use Rattle.entailment.proofs.Queries.{over_of_list}
 use Rattle.entailment.proofs.query.query_of.Goals as goal
 

@@ -2,7 +2,7 @@ use Rattle.std.proofs.Common.{◌≡◌, None, Some, map, option_map, sym, ap, �
 use Rattle.state_space.specs.Spaces.{names, ranges}
 use Rattle.state_space.specs.Ranges.{form_of}
 use Rattle.temporal_logic.specs.Trees.{tree_of}
-use Rattle.model_text.specs.RawSeen.{written}
+use Rattle.model_text.specs.RawView.{written}
 use Rattle.goal_model.specs.Names.{place_of}
 use Rattle.goal_model.proofs.WrittenParts.{among_none, among_set}
 use Rattle.goal_model.proofs.formula.among.Goals as goal

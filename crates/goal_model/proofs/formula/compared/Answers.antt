@@ -2,7 +2,7 @@ use Rattle.std.proofs.Common.{◌≡◌, Some, option_map, sym, None, ap}
 use Rattle.state_space.specs.Spaces.{names, ranges}
 use Rattle.state_space.specs.Ranges.{form_of}
 use Rattle.temporal_logic.specs.Trees.{relation_of, tree_of}
-use Rattle.model_text.specs.RawSeen.{written}
+use Rattle.model_text.specs.RawView.{written}
 use Rattle.goal_model.specs.Names.{place_of}
 use Rattle.goal_model.proofs.WrittenParts.{compared_value, compared_other}
 use Rattle.goal_model.proofs.formula.compared.Goals as goal

@@ -1,6 +1,6 @@
 use Rattle.std.proofs.Common.{◌≡◌, ◌^◌, ◌<◌, map, drop}
 use Rattle.state_space.specs.Ranges.{form_of, size_of}
-use Rattle.model_text.specs.RawSeen.{written}
+use Rattle.model_text.specs.RawView.{written}
 use Rattle.goal_model.specs.ValueIndexes.{set_with}
 use Rattle.goal_model.proofs.value_index.set_of.Given as goal
 

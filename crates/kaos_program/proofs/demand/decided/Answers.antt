@@ -2,7 +2,7 @@ use Rattle.std.proofs.Common.{subst}
 use Rattle.state_space.specs.Spaces.{sizes}
 use Rattle.tableau_rules.specs.declared.answer.Answer.{Answer}
 use Rattle.tableau_rules.specs.Answers.{IsValidAnswer}
-use Rattle.tableau_rules.specs.QuerySeen.{cores_in}
+use Rattle.tableau_rules.specs.QueryView.{cores_in}
 use Rattle.kaos_program.proofs.Decisions.{right_empty, right_found, right_withheld}
 use Rattle.kaos_program.proofs.demand.decided.Goals as goal
 

@@ -3,7 +3,7 @@ use Rattle.std.specs.Prelude.{OnOk}
 use Rattle.state_space.specs.Ranges.{size_of}
 use Rattle.state_space.specs.Spaces.{names, ranges}
 use Rattle.state_space.proofs.SpaceFacts.{sizes_of_ranges}
-use Rattle.tableau_rules.specs.CertSeen.{cert_of}
+use Rattle.tableau_rules.specs.CertView.{cert_of}
 use Rattle.elimination_cert.specs.CertTexts.{cert_text}
 use Rattle.kaos_program.specs.declared.report.Evidence.{Evidence}
 use Rattle.kaos_program.specs.Texts.{indented, evidence_text}

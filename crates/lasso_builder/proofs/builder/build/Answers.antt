@@ -1,8 +1,8 @@
 use Rattle.std.proofs.Common.{◌∙◌, sym, subst}
 use Rattle.temporal_logic.specs.Rows.{rows, from_lists}
 use Rattle.state_space.specs.Spaces.{sizes}
-use Rattle.tableau_rules.specs.QuerySeen.{cores_in}
-use Rattle.tableau_rules.specs.GraphSeen.{graph_of}
+use Rattle.tableau_rules.specs.QueryView.{cores_in}
+use Rattle.tableau_rules.specs.GraphView.{graph_of}
 use Rattle.tableau_rules.specs.Queries.{MeetsAll}
 use Rattle.lasso_builder.proofs.StateRows.{rows_answer}
 use Rattle.lasso_builder.proofs.builder.build.Goals as goal

@@ -1,8 +1,8 @@
 use Rattle.std.proofs.Common.{◌<◌, length, sym, subst}
 use Rattle.std.specs.Prelude.{All}
 use Rattle.formula_table.specs.Closures.{closure_of}
-use Rattle.tableau_rules.specs.QuerySeen.{cores_in}
-use Rattle.tableau_rules.specs.GraphSeen.{graph_of}
+use Rattle.tableau_rules.specs.QueryView.{cores_in}
+use Rattle.tableau_rules.specs.GraphView.{graph_of}
 use Rattle.tableau_rules.specs.Links.{carries_at, fulfils_at, IsLinked}
 use Rattle.tableau_rules.specs.Walks.{IsClosedWalk}
 use Rattle.lasso_builder.specs.declared.walk.ClosedWalk.{ClosedWalk}

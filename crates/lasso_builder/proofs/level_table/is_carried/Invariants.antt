@@ -1,7 +1,7 @@
 use Rattle.std.proofs.Common.{ℕ, ◌<◌, ◌≡◌, false}
 use Rattle.formula_table.specs.Closures.{closure_of}
-use Rattle.tableau_rules.specs.QuerySeen.{cores_in}
-use Rattle.tableau_rules.specs.GraphSeen.{graph_of}
+use Rattle.tableau_rules.specs.QueryView.{cores_in}
+use Rattle.tableau_rules.specs.GraphView.{graph_of}
 use Rattle.tableau_rules.specs.Links.{carries_at}
 use Rattle.tableau_rules.specs.Levels.{Alive}
 use Rattle.lasso_builder.proofs.level_table.is_carried.Given as goal

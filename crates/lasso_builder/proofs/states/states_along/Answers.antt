@@ -2,8 +2,8 @@ use Rattle.std.proofs.Common.{◌<◌, length, get_or, sym, ap, arith}
 use Rattle.std.proofs.lemmas.List.{length-map}
 use Rattle.temporal_logic.specs.Rows.{rows}
 use Rattle.tableau_rules.specs.Graphs.{GraphNodeForm}
-use Rattle.tableau_rules.specs.GraphSeen.{graph_node_of, graph_of}
-use Rattle.tableau_rules.specs.NodeSeen.{node_of}
+use Rattle.tableau_rules.specs.GraphView.{graph_node_of, graph_of}
+use Rattle.tableau_rules.specs.NodeView.{node_of}
 use Rattle.tableau_rules.proofs.LinkLists.{seen_at}
 use Rattle.lasso_builder.proofs.StateRows.{rows_more}
 use Rattle.lasso_builder.proofs.states.states_along.Goals as goal

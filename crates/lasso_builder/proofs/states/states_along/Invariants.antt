@@ -1,6 +1,6 @@
 use Rattle.std.proofs.Common.{◌≡◌, take}
 use Rattle.temporal_logic.specs.Rows.{rows}
-use Rattle.tableau_rules.specs.GraphSeen.{graph_of}
+use Rattle.tableau_rules.specs.GraphView.{graph_of}
 use Rattle.tableau_rules.specs.Walks.{states}
 use Rattle.lasso_builder.specs.GraphPlaces.{nodes_at}
 use Rattle.lasso_builder.proofs.states.states_along.Given as goal

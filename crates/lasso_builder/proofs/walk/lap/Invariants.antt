@@ -1,6 +1,6 @@
 use Rattle.formula_table.specs.Closures.{closure_of}
-use Rattle.tableau_rules.specs.QuerySeen.{cores_in}
-use Rattle.tableau_rules.specs.GraphSeen.{graph_of}
+use Rattle.tableau_rules.specs.QueryView.{cores_in}
+use Rattle.tableau_rules.specs.GraphView.{graph_of}
 use Rattle.tableau_rules.specs.Links.{fulfils_at, carries_at}
 use Rattle.lasso_builder.specs.PlaceWalks.{Lap}
 use Rattle.lasso_builder.proofs.walk.lap.Given as goal

@@ -2,7 +2,7 @@ use Rattle.std.proofs.Common.{◌-◌, length, refl, ap, ◌∙◌, arith}
 use Rattle.std.proofs.lemmas.Result.{err_from_is_err_and}
 use Rattle.state_space.specs.declared.keyword.Keyword.TheVariants as keywords
 use Rattle.model_text.specs.RawTrees.{conj, disj}
-use Rattle.model_text.specs.RawSeen.{raw_tree}
+use Rattle.model_text.specs.RawView.{raw_tree}
 use Rattle.model_text.specs.Reading.{behind_keyword}
 use Rattle.model_text.specs.FormulaReading.{tempo_with, and_with, prefix_at}
 use Rattle.model_text.proofs.FormulaTurns.{implies_fails, chain_more, chain_done}
@@ -23,7 +23,7 @@ and-operands-preserved t c =
     let is = c.operands-test.ensures in
     let more = s.2 ∙ chain_more (behind_keyword keywords.And) conj (tempo_with (prefix_at c.args.depth)) s.0 (raw_tree c.operands.formula) _ _ (omega (arith, ap length is)) (ap (behind_keyword keywords.And) is) in
     record {
-      so_far = (s.0 - 1, omega (arith, ap length is, c.in_ok-right.ensures.shorter), more ∙ rw (c.in_ok-right.ensures.exact, c.in_ok-new.ensures.ok, c.in_ok-new-2.ensures.ok) refl);
+      so_far = (s.0 - 1, omega (arith, ap length is, c.in_ok-right.ensures.shorter), more ∙ rw (c.in_ok-right.ensures.exact, c.in_ok-formula-2.ensures) refl);
       shorter = omega (arith, ap length is, c.in_ok-right.ensures.shorter);
     }
 
@@ -46,7 +46,7 @@ or-operands-preserved t c =
     let is = c.operands-test.ensures in
     let more = s.2 ∙ chain_more (behind_keyword keywords.Or) disj (and_with (prefix_at c.args.depth)) s.0 (raw_tree c.operands.formula) _ _ (omega (arith, ap length is)) (ap (behind_keyword keywords.Or) is) in
     record {
-      so_far = (s.0 - 1, omega (arith, ap length is, c.in_ok-right.ensures.shorter), more ∙ rw (c.in_ok-right.ensures.exact, c.in_ok-new.ensures.ok, c.in_ok-new-2.ensures.ok) refl);
+      so_far = (s.0 - 1, omega (arith, ap length is, c.in_ok-right.ensures.shorter), more ∙ rw (c.in_ok-right.ensures.exact, c.in_ok-formula-2.ensures) refl);
       shorter = omega (arith, ap length is, c.in_ok-right.ensures.shorter);
     }
 

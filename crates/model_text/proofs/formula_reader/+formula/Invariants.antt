@@ -1,34 +1,40 @@
 use Rattle.std.proofs.Common.{◌≡◌, ℕ, ◌+◌, ◌*◌, ◌<◌, ◌≤◌, length}
 use Rattle.state_space.specs.declared.keyword.Keyword.TheVariants as keywords
 use Rattle.model_text.specs.RawTrees.{conj, disj}
-use Rattle.model_text.specs.RawSeen.{raw_tree}
+use Rattle.model_text.specs.RawView.{raw_tree}
 use Rattle.model_text.specs.Reading.{left, behind_keyword}
 use Rattle.model_text.specs.FormulaReading.{tempo_with, and_with, or_with, prefix_at, chain}
 use Rattle.model_text.proofs.formula_reader.+formula.Given as goal
 
 abbrev pub decreases-primary : goal.decreases-primary
-decreases-primary l = 8 * length (left l.cursor.now) + 0
+decreases-primary l = 10 * length (left l.cursor.now) + 0
+
+abbrev pub decreases-simple : goal.decreases-simple
+decreases-simple l = 10 * length (left l.cursor.now) + 1
+
+abbrev pub decreases-enclosed : goal.decreases-enclosed
+decreases-enclosed l = 10 * length (left l.cursor.now) + 9
 
 abbrev pub decreases-prefix : goal.decreases-prefix
-decreases-prefix l = 8 * length (left l.cursor.now) + 1
+decreases-prefix l = 10 * length (left l.cursor.now) + 2
 
 abbrev pub decreases-tempo : goal.decreases-tempo
-decreases-tempo l = 8 * length (left l.cursor.now) + 2
+decreases-tempo l = 10 * length (left l.cursor.now) + 3
 
 abbrev pub decreases-and : goal.decreases-and
-decreases-and l = 8 * length (left l.cursor.now) + 3
+decreases-and l = 10 * length (left l.cursor.now) + 4
 
 abbrev pub decreases-or : goal.decreases-or
-decreases-or l = 8 * length (left l.cursor.now) + 4
+decreases-or l = 10 * length (left l.cursor.now) + 5
 
 abbrev pub decreases-implies : goal.decreases-implies
-decreases-implies l = 8 * length (left l.cursor.now) + 5
+decreases-implies l = 10 * length (left l.cursor.now) + 6
 
 abbrev pub decreases-iff_formula : goal.decreases-iff_formula
-decreases-iff_formula l = 8 * length (left l.cursor.now) + 6
+decreases-iff_formula l = 10 * length (left l.cursor.now) + 7
 
 abbrev pub decreases-formula : goal.decreases-formula
-decreases-formula l = 8 * length (left l.cursor.now) + 7
+decreases-formula l = 10 * length (left l.cursor.now) + 8
 
 abbrev pub invariant-and-operands : goal.invariant-and-operands
 invariant-and-operands l = record {

@@ -1,5 +1,5 @@
 use Rattle.std.proofs.Common.{◌≡◌, ℕ, ◌<◌, ◌≤◌, length, map}
-use Rattle.model_text.specs.RawSeen.{written}
+use Rattle.model_text.specs.RawView.{written}
 use Rattle.model_text.specs.Reading.{left}
 use Rattle.model_text.specs.FormulaReading.{values_at, more_values_at}
 use Rattle.model_text.proofs.formula_reader.values.Given as goal

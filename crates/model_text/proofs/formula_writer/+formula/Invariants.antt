@@ -17,3 +17,6 @@ decreases-tempo l = 3 * max (size-RawFormula l.left.now) (size-RawFormula l.righ
 
 abbrev pub decreases-infix : goal.decreases-infix
 decreases-infix l = 3 * max (size-RawFormula l.left.now) (size-RawFormula l.right.now) + 2
+
+abbrev pub decreases-quantified : goal.decreases-quantified
+decreases-quantified l = 3 * size-RawFormula l.body.now + 2

@@ -1,7 +1,7 @@
 use Rattle.std.proofs.Common.{◌∷◌, []}
-use Rattle.model_text.specs.declared.token.Mark.TheVariants.{Comma}
+use Rattle.model_text.specs.declared.token.Sign.TheVariants.{Comma}
 use Rattle.model_text.specs.Tokens.{mark}
-use Rattle.model_text.specs.RawSeen.{written}
+use Rattle.model_text.specs.RawView.{written}
 use Rattle.model_text.specs.Writing.{value_token}
 use Rattle.model_text.proofs.LineLaws.{next_part}
 use Rattle.model_text.proofs.formula_writer.more_values.Goals as goal

@@ -1,5 +1,5 @@
 use Rattle.std.proofs.Common.{◌≡◌, ◌∷◌, [], take}
-use Rattle.model_text.specs.RawSeen.{written}
+use Rattle.model_text.specs.RawView.{written}
 use Rattle.model_text.specs.Writing.{value_token}
 use Rattle.model_text.specs.Lines.{with_tokens, behind_commas}
 use Rattle.model_text.proofs.formula_writer.more_values.Given as goal

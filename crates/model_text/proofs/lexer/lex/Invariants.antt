@@ -1,7 +1,7 @@
 use Rattle.std.proofs.Common.{◌≡◌, ◌++◌, drop}
 use Rattle.model_text.specs.Tokens.{all_placed}
 use Rattle.model_text.specs.Lexing.{between, tokens_from}
-use Rattle.model_text.specs.Seen.{seen, IsWithin}
+use Rattle.model_text.specs.LexerView.{seen, IsWithin}
 use Rattle.model_text.proofs.lexer.lex.Given as goal
 
 abbrev pub invariant-loop-at : goal.invariant-loop-at

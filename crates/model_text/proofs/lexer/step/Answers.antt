@@ -1,5 +1,5 @@
 use Rattle.std.proofs.Common.{◌<◌, ◌+◌, subst, sym, ◌∙◌}
-use Rattle.model_text.specs.Seen.{IsWithin}
+use Rattle.model_text.specs.LexerView.{IsWithin}
 use Rattle.model_text.proofs.Steps.{word_goes_on, negative_goes_on}
 use Rattle.model_text.proofs.lexer.step.Goals as goal
 

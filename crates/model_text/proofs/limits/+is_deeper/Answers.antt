@@ -1,5 +1,5 @@
 use Rattle.std.proofs.Common.{sym}
-use Rattle.model_text.specs.RawSeen.{raw_tree}
+use Rattle.model_text.specs.RawView.{raw_tree}
 use Rattle.model_text.proofs.LevelCounts.{over_none}
 use Rattle.model_text.proofs.limits.+is_deeper.Goals as goal
 

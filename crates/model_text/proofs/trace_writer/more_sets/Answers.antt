@@ -1,5 +1,5 @@
 use Rattle.std.proofs.Common.{◌∷◌}
-use Rattle.model_text.specs.declared.token.Mark.TheVariants.{Comma}
+use Rattle.model_text.specs.declared.token.Sign.TheVariants.{Comma}
 use Rattle.model_text.specs.Tokens.{mark}
 use Rattle.model_text.specs.StatementReading.{setting_of}
 use Rattle.model_text.specs.Writing.{set_tokens}

@@ -1,5 +1,5 @@
 use Rattle.std.proofs.Common.{arith, sym, ap, ◌∙◌, length, get_or}
-use Rattle.tableau_rules.specs.GraphSeen.{graph_of}
+use Rattle.tableau_rules.specs.GraphView.{graph_of}
 use Rattle.tableau_rules.proofs.LinkLists.{seen_at, size_of}
 use Rattle.tableau_elimination.specs.Marks.{cause_at}
 use Rattle.tableau_elimination.specs.CertNodes.{cert_node_by}

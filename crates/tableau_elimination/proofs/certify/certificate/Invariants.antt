@@ -1,6 +1,6 @@
 use Rattle.std.proofs.Common.{◌≡◌, length, map}
-use Rattle.tableau_rules.specs.GraphSeen.{graph_of}
-use Rattle.tableau_rules.specs.CertSeen.{cert_node_of}
+use Rattle.tableau_rules.specs.GraphView.{graph_of}
+use Rattle.tableau_rules.specs.CertView.{cert_node_of}
 use Rattle.tableau_elimination.proofs.CertLists.{AreEntries}
 use Rattle.tableau_elimination.proofs.certify.certificate.Given as goal
 

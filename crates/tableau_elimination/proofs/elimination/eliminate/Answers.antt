@@ -1,12 +1,12 @@
 use Rattle.std.proofs.Common.{arith, ◌≡◌, ◌∙◌, sym, subst}
 use Rattle.std.proofs.lemmas.List.{take_at}
 use Rattle.formula_table.specs.Closures.{closure_of}
-use Rattle.tableau_rules.specs.QuerySeen.{cores_in}
-use Rattle.tableau_rules.specs.GraphSeen.{graph_of}
+use Rattle.tableau_rules.specs.QueryView.{cores_in}
+use Rattle.tableau_rules.specs.GraphView.{graph_of}
 use Rattle.tableau_rules.specs.Links.{fulfils_at, carries_at, IsLinked}
 use Rattle.tableau_rules.specs.Levels.{PlacesSurvive}
 use Rattle.tableau_rules.specs.Surviving.{Survives}
-use Rattle.tableau_rules.specs.CertSeen.{cert_of}
+use Rattle.tableau_rules.specs.CertView.{cert_of}
 use Rattle.tableau_elimination.specs.Marks.{AreMarked, AreRight, HasEnded}
 use Rattle.tableau_elimination.specs.CertNodes.{IsCertOf}
 use Rattle.tableau_elimination.proofs.Places.{ready, survives}

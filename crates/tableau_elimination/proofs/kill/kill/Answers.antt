@@ -9,5 +9,5 @@ returns c =
     let lv = c.in_ok-levels.levels.items in
     let v : c.deref.result.now ≡ lv = c.deref.ensures.value in
     let k = rw v at c.kill_waiting.ensures in
-    waited c.args.search.now.links.now (carrying_in c.args.search.now) (fulfils_at c.args.search.now.links.now) c.args.until lv c.args.alive.now c.kill_waiting.new.alive c.args.ranks.now c.kill_waiting.new.ranks c.args.causes.now c.kill_waiting.new.causes c.args.left c.kill_waiting.result
+    waited c.args.linked_graph.now.links.now (carrying_in c.args.linked_graph.now) (fulfils_at c.args.linked_graph.now.links.now) c.args.until lv c.args.alive.now c.kill_waiting.new.alive c.args.ranks.now c.kill_waiting.new.ranks c.args.causes.now c.kill_waiting.new.causes c.args.left c.kill_waiting.result
     c.requires.ready.connected c.requires.marked c.requires.leafless c.in_ok-levels.ensures k

@@ -9,12 +9,12 @@ pub overflow_sub-rank : goal.overflow_sub-rank
 overflow_sub-rank c = let h = living_most c.args.alive.now in let a = c.requires.alive in let l = c.requires.left in omega (arith, h, a, l)
 
 pub overflow_sub-rest : goal.overflow_sub-rest
-overflow_sub-rest c = (killed_take (carrying_in c.args.search.now c.args.until) c.args.until c.args.levels.now c.args.alive.now c.places.alive c.args.ranks.now c.places.ranks c.args.causes.now c.places.causes c.args.left c.places.rest c.places.place c.places.invariant
-    (omega arith) (omega arith) (omega arith) (sym (waits_now (carrying_in c.args.search.now c.args.until) c.args.until c.args.levels.now c.args.alive.now c.places.alive c.args.ranks.now c.places.ranks c.args.causes.now c.places.causes c.args.left c.places.rest c.places.place c.places.invariant) ∙ sym c.if-is_waiting.ensures)).0
+overflow_sub-rest c = (killed_take (carrying_in c.args.linked_graph.now c.args.until) c.args.until c.args.levels.now c.args.alive.now c.places.alive c.args.ranks.now c.places.ranks c.args.causes.now c.places.causes c.args.left c.places.rest c.places.place c.places.invariant
+    (omega arith) (omega arith) (omega arith) (sym (waits_now (carrying_in c.args.linked_graph.now c.args.until) c.args.until c.args.levels.now c.args.alive.now c.places.alive c.args.ranks.now c.places.ranks c.args.causes.now c.places.causes c.args.left c.places.rest c.places.place c.places.invariant) ∙ sym c.if-is_waiting.ensures)).0
 
 pub places-preserved : goal.places-preserved
 places-preserved c =
-    let cr = carrying_in c.args.search.now c.args.until in
+    let cr = carrying_in c.args.linked_graph.now c.args.until in
     let here = waits_now cr c.args.until c.args.levels.now c.args.alive.now c.places.alive c.args.ranks.now c.places.ranks c.args.causes.now c.places.causes c.args.left c.places.rest c.places.place c.places.invariant in
     elim c.if-is_waiting.branch [
       | then-is_waiting w ↦

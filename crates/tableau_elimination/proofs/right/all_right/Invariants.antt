@@ -6,4 +6,4 @@ use Rattle.tableau_elimination.proofs.right.all_right.Given as goal
 
 abbrev pub invariant-places : goal.invariant-places
 invariant-places l = (k : ℕ) → k < l.place → Gone l.alive k
-    → IsFound l.search.links.now (carrying_in l.search) (fulfils_at l.search.links.now) l.alive l.ranks l.causes l.left k
+    → IsFound l.linked_graph.links.now (carrying_in l.linked_graph) (fulfils_at l.linked_graph.links.now) l.alive l.ranks l.causes l.left k

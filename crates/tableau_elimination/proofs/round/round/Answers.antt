@@ -1,7 +1,7 @@
 use Rattle.std.proofs.Common.{arith}
 use Rattle.formula_table.specs.Closures.{closure_of}
-use Rattle.tableau_rules.specs.QuerySeen.{cores_in}
-use Rattle.tableau_rules.specs.GraphSeen.{graph_of}
+use Rattle.tableau_rules.specs.QueryView.{cores_in}
+use Rattle.tableau_rules.specs.GraphView.{graph_of}
 use Rattle.tableau_rules.specs.Links.{fulfils_at}
 use Rattle.tableau_elimination.specs.Marks.{carrying_in}
 use Rattle.tableau_elimination.proofs.Places.{carried_below}
@@ -10,11 +10,11 @@ use Rattle.tableau_elimination.proofs.round.round.Goals as goal
 
 pub formulas-init : goal.formulas-init
 formulas-init c =
-    going_start c.args.search.now.links.now (carrying_in c.args.search.now) (fulfils_at c.args.search.now.links.now) c.args.alive.now c.clear-first.new.alive c.clear-first.new.ranks c.clear-first.new.causes c.args.left c.clear-first.result (c.clear-first.ensures (carrying_in c.args.search.now) c.requires.marked)
+    going_start c.args.linked_graph.now.links.now (carrying_in c.args.linked_graph.now) (fulfils_at c.args.linked_graph.now.links.now) c.args.alive.now c.clear-first.new.alive c.clear-first.new.ranks c.clear-first.new.causes c.args.left c.clear-first.result (c.clear-first.ensures (carrying_in c.args.linked_graph.now) c.requires.marked)
 
 pub returns : goal.returns
 returns c =
-    going_end c.args.search.now.links.now (carrying_in c.args.search.now) (fulfils_at c.args.search.now.links.now) c.args.alive.now c.clear-first.new.alive c.formulas.alive c.clear-first.new.ranks c.formulas.ranks
+    going_end c.args.linked_graph.now.links.now (carrying_in c.args.linked_graph.now) (fulfils_at c.args.linked_graph.now.links.now) c.args.alive.now c.clear-first.new.alive c.formulas.alive c.clear-first.new.ranks c.formulas.ranks
     c.clear-first.new.causes c.formulas.causes c.args.left c.clear-first.result c.formulas.rest c.formulas.formula
-    (λ d k h. let b = carried_below (closure_of (cores_in c.args.search.now.query.now)) (graph_of c.args.search.now.graph.now) d k h in omega (arith, b))
-    (c.clear-first.ensures (carrying_in c.args.search.now) c.requires.marked) c.formulas.invariant
+    (λ d k h. let b = carried_below (closure_of (cores_in c.args.linked_graph.now.query.now)) (graph_of c.args.linked_graph.now.graph.now) d k h in omega (arith, b))
+    (c.clear-first.ensures (carrying_in c.args.linked_graph.now) c.requires.marked) c.formulas.invariant

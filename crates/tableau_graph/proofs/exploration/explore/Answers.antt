@@ -1,8 +1,8 @@
 use Rattle.std.proofs.Common.{◌≡◌, [], ◌∷◌, map, ap, subst, refl, ◌∙◌, arith}
 use Rattle.std.proofs.lemmas.List.{nil_from_length, map-append}
 use Rattle.state_space.specs.Spaces.{sizes}
-use Rattle.tableau_rules.specs.NodeSeen.{node_of}
-use Rattle.tableau_rules.specs.QuerySeen.{cores_in}
+use Rattle.tableau_rules.specs.NodeView.{node_of}
+use Rattle.tableau_rules.specs.QueryView.{cores_in}
 use Rattle.tableau_rules.proofs.Sizes.{map_length}
 use Rattle.tableau_graph.specs.Places.{IsRow}
 use Rattle.tableau_graph.specs.Joined.{places_of, rows_in}
@@ -13,15 +13,15 @@ pub returns-then-is_none : goal.returns-then-is_none
 returns-then-is_none c =
     let none : map node_of c.new-nodes.result.keys ≡ [] = ap (map node_of) (nil_from_length c.new-nodes.result.keys c.new-nodes.ensures.len) in (
       refl,
-      first_over (sizes c.args.space.now) (cores_in c.args.query.now) c.args.budget (map node_of c.new-nodes.result.keys) (map node_of c.place.new.nodes.keys) (node_of c.in_ok-root.field-0) c.in_ok-place.field-0 none c.in_ok-root.ensures.root
+      first_over (sizes c.args.space.now) (cores_in c.args.query.now) c.args.budget (map node_of c.new-nodes.result.keys) (map node_of c.place.new.nodes.keys) (node_of c.in_ok-kid.kid) c.in_ok-place.field-0 none c.in_ok-kid.ensures.root
           c.if-is_none.ensures c.in_ok-place.ensures,
     )
 
 pub rows-init : goal.rows-init
 rows-init c =
     let none : map node_of c.new-nodes.result.keys ≡ [] = ap (map node_of) (nil_from_length c.new-nodes.result.keys c.new-nodes.ensures.len) in
-    first_rows (sizes c.args.space.now) (cores_in c.args.query.now) c.args.budget (map node_of c.new-nodes.result.keys) (map node_of c.place.new.nodes.keys) (node_of c.in_ok-root.field-0) c.in_ok-place.field-0 (rows_in c.new-rows.result.items) none
-    c.in_ok-root.ensures.root (ap rows_in c.new-rows.ensures.items) c.if-is_none.ensures c.in_ok-place.ensures
+    first_rows (sizes c.args.space.now) (cores_in c.args.query.now) c.args.budget (map node_of c.new-nodes.result.keys) (map node_of c.place.new.nodes.keys) (node_of c.in_ok-kid.kid) c.in_ok-place.field-0 (rows_in c.new-rows.result.items) none
+    c.in_ok-kid.ensures.root (ap rows_in c.new-rows.ensures.items) c.if-is_none.ensures c.in_ok-place.ensures
 
 pub rows-preserved : goal.rows-preserved
 rows-preserved c =

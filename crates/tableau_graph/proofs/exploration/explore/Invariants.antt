@@ -1,7 +1,7 @@
 use Rattle.std.proofs.Common.{length, map, ◌-◌}
 use Rattle.state_space.specs.Spaces.{sizes}
-use Rattle.tableau_rules.specs.NodeSeen.{node_of}
-use Rattle.tableau_rules.specs.QuerySeen.{cores_in}
+use Rattle.tableau_rules.specs.NodeView.{node_of}
+use Rattle.tableau_rules.specs.QueryView.{cores_in}
 use Rattle.tableau_graph.specs.Places.{AreRows}
 use Rattle.tableau_graph.specs.Joined.{rows_in}
 use Rattle.tableau_graph.proofs.exploration.explore.Given as goal

@@ -1,7 +1,7 @@
 use Rattle.std.proofs.Common.{map}
 use Rattle.state_space.specs.Spaces.{sizes}
-use Rattle.tableau_rules.specs.NodeSeen.{node_of}
-use Rattle.tableau_rules.specs.QuerySeen.{cores_in}
+use Rattle.tableau_rules.specs.NodeView.{node_of}
+use Rattle.tableau_rules.specs.QueryView.{cores_in}
 use Rattle.tableau_graph.proofs.Growth.{Rowing}
 use Rattle.tableau_graph.proofs.exploration.row.Given as goal
 

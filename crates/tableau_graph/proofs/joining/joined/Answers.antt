@@ -1,7 +1,7 @@
 use Rattle.std.proofs.Common.{◌≡◌, [], ◌++◌, ◌∷◌, map, ap, ◌∙◌, arith}
 use Rattle.std.proofs.lemmas.List.{nil_from_length}
-use Rattle.tableau_rules.specs.NodeSeen.{node_of}
-use Rattle.tableau_rules.specs.GraphSeen.{graph_node_of}
+use Rattle.tableau_rules.specs.NodeView.{node_of}
+use Rattle.tableau_rules.specs.GraphView.{graph_node_of}
 use Rattle.tableau_graph.specs.Joined.{join, rows_in}
 use Rattle.tableau_graph.proofs.Joins.{joining_more, joining_end}
 use Rattle.tableau_graph.proofs.joining.joined.Goals as goal

@@ -1,5 +1,5 @@
 use Rattle.std.proofs.Common.{length, map}
-use Rattle.tableau_rules.specs.NodeSeen.{node_of}
+use Rattle.tableau_rules.specs.NodeView.{node_of}
 use Rattle.tableau_graph.specs.Joined.{join, rows_in}
 use Rattle.tableau_graph.proofs.Joins.{IsJoining}
 use Rattle.tableau_graph.proofs.joining.joined.Given as goal

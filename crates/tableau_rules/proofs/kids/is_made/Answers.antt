@@ -1,7 +1,7 @@
 use Rattle.std.proofs.Common.{IsTrue, sym, ◌∙◌}
 use Rattle.tableau_rules.specs.Turns.{effects_of}
-use Rattle.tableau_rules.specs.NodeSeen.{node_of}
-use Rattle.tableau_rules.specs.KidsSeen.{kid_by}
+use Rattle.tableau_rules.specs.NodeView.{node_of}
+use Rattle.tableau_rules.specs.KidsView.{kid_by}
 use Rattle.tableau_rules.proofs.KidLists.{iff_mapped, iff_none}
 use Rattle.tableau_rules.proofs.kids.is_made.Goals as goal
 

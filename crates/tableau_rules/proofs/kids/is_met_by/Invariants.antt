@@ -1,6 +1,6 @@
 use Rattle.std.proofs.Common.{ℕ, ◌≡◌, ◌<◌}
 use Rattle.std.specs.Prelude.{slice_index_or}
-use Rattle.tableau_rules.specs.KidsSeen.{set_by}
+use Rattle.tableau_rules.specs.KidsView.{set_by}
 use Rattle.tableau_rules.proofs.kids.is_met_by.Given as goal
 
 abbrev pub invariant-places : goal.invariant-places

@@ -1,21 +1,31 @@
-use Rattle.std.proofs.Common.{arith, length}
+use Rattle.std.proofs.Common.{◌≡◌, ◌<◌, Some, None, List, ℕ, sym, ap, ◌∙◌, length}
 use Rattle.formula_table.specs.Tables.{closure_in}
-use Rattle.tableau_rules.proofs.ChosenFormulas.{start, next_below, few_formulas}
+use Rattle.tableau_rules.specs.Sets.{first_in}
+use Rattle.tableau_rules.proofs.ClassSets.{chosen_first, chosen_second, chosen_third, first_below, none_left}
 use Rattle.tableau_rules.proofs.node.chosen.Goals as goal
 
-pub overflow_add-from : goal.overflow_add-from
-overflow_add-from c =
-    let few = few_formulas c.args.table.now in
-    let s = start (closure_in c.args.table.now) (length (closure_in c.args.table.now)) c.in-Some.first c.args.todo.now c.requires c.in-Some.ensures.run.1 in
-    omega (arith, s.best, few)
+pub returns-in-Some : goal.returns-in-Some
+returns-in-Some c =
+    let closure = closure_in c.args.formulas.now.table in
+    let todo = c.args.todo.now in
+    let is = ap (λ s. first_in s todo) (sym c.args.formulas.now.firsts) ∙ (sym c.first_in.ensures ∙ c.in-Some.is) in
+    record { chosen = sym (chosen_first closure todo c.requires c.in-Some.number is); inside = λ _. first_below closure todo c.requires _ c.in-Some.number is }
 
-pub formulas-init : goal.formulas-init
-formulas-init c =
-    let s = start (closure_in c.args.table.now) (length (closure_in c.args.table.now)) c.in-Some.first c.args.todo.now c.requires c.in-Some.ensures.run.1 in
-    record { picks = s.picks; best = s.best; rest = s.rest; few = omega (arith, s.best) }
+pub returns-in-Some-first_in-clause-chosen : goal.returns-in-Some-first_in-clause-chosen
+returns-in-Some-first_in-clause-chosen c =
+    let closure = closure_in c.args.formulas.now.table in
+    let todo = c.args.todo.now in
+    let none = ap (λ s. first_in s todo) (sym c.args.formulas.now.firsts) ∙ (sym c.first_in.ensures ∙ c.in_default.is) in
+    let is = ap (λ s. first_in s todo) (sym c.args.formulas.now.seconds) ∙ (sym c.first_in-2.ensures ∙ c.in-Some-first_in.is) in
+    sym (chosen_second closure todo c.requires c.in-Some-first_in.number none is)
 
-pub overflow_add-from-in-Some-least_from : goal.overflow_add-from-in-Some-least_from
-overflow_add-from-in-Some-least_from c =
-    let few = few_formulas c.args.table.now in
-    let below = next_below (length (closure_in c.args.table.now)) c.formulas.from c.in-Some-least_from.number c.args.todo.now c.formulas.invariant.rest c.in-Some-least_from.ensures.run.1 in
-    omega (arith, below.0, few)
+pub returns-in-Some-first_in-clause-inside : goal.returns-in-Some-first_in-clause-inside
+returns-in-Some-first_in-clause-inside c = λ _. first_below (closure_in c.args.formulas.now.table) c.args.todo.now c.requires _ c.in-Some-first_in.number (sym c.first_in-2.ensures ∙ c.in-Some-first_in.is)
+
+pub returns-in-Some-least_from-clause-chosen : goal.returns-in-Some-least_from-clause-chosen
+returns-in-Some-least_from-clause-chosen c =
+    let closure = closure_in c.args.formulas.now.table in
+    let todo = c.args.todo.now in
+    let none = ap (λ s. first_in s todo) (sym c.args.formulas.now.firsts) ∙ (sym c.first_in.ensures ∙ c.in_default.is) in
+    let none_again = ap (λ s. first_in s todo) (sym c.args.formulas.now.seconds) ∙ (sym c.first_in-2.ensures ∙ c.in_default-first_in.is) in
+    sym (chosen_third closure todo c.requires c.in-Some-least_from.number none none_again (sym c.least_from.ensures.least ∙ c.in-Some-least_from.is))

@@ -1,5 +1,5 @@
 use Rattle.std.proofs.Common.{◌≡◌, ◌↔◌, map, drop}
-use Rattle.bound_unfolding.specs.CoreSeen.{core_tree_of}
+use Rattle.bound_unfolding.specs.CoreView.{core_tree_of}
 use Rattle.tableau_rules.proofs.query.are_same_cores.Given as goal
 
 abbrev pub invariant-places : goal.invariant-places

@@ -1,5 +1,5 @@
 use Rattle.std.proofs.Common.{◌≡◌, [], map, drop}
-use Rattle.bound_unfolding.specs.CoreSeen.{core_tree_of}
+use Rattle.bound_unfolding.specs.CoreView.{core_tree_of}
 use Rattle.formula_table.specs.Closures.{with_cores, closure_of}
 use Rattle.formula_table.specs.Tables.{closure_in}
 use Rattle.tableau_rules.specs.Nodes.{with_numbers_of}

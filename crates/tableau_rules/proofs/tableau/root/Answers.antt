@@ -1,7 +1,7 @@
 use Rattle.std.proofs.Common.{ap, ◌∙◌}
 use Rattle.state_space.specs.Spaces.{sizes}
 use Rattle.tableau_rules.specs.Turns.{sets_of}
-use Rattle.tableau_rules.specs.QuerySeen.{cores_in}
+use Rattle.tableau_rules.specs.QueryView.{cores_in}
 use Rattle.tableau_rules.proofs.QueryNodes.{root_of_query_by}
 use Rattle.tableau_rules.proofs.tableau.root.Goals as goal
 

@@ -1,10 +1,10 @@
 use Rattle.std.proofs.Common.{◌≤◌, length}
 use Rattle.state_space.specs.Spaces.{sizes}
-use Rattle.tableau_rules.specs.QuerySeen.{cores_in}
-use Rattle.tableau_rules.specs.CertSeen.{cert_of}
+use Rattle.tableau_rules.specs.QueryView.{cores_in}
+use Rattle.tableau_rules.specs.CertView.{cert_of}
 use Rattle.tableau_rules.specs.Certificates.{IsValid}
 use Rattle.tableau_rules.specs.Graphs.{IsWhole}
-use Rattle.tableau_rules.specs.GraphSeen.{graph_of}
+use Rattle.tableau_rules.specs.GraphView.{graph_of}
 use Rattle.tableau_rules.proofs.Sizes.{whole_size}
 use Rattle.entailment.proofs.engine.EngineAnswerer.answer.Goals as goal
 

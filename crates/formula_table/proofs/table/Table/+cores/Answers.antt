@@ -1,7 +1,7 @@
 use Rattle.std.proofs.Common.{sym, ◌<◌, ◌≤◌, length, List, subst, refl, arith, rules}
 use Rattle.std.proofs.lemmas.Result.{on_ok_weaker}
 use Rattle.bound_unfolding.specs.CoreForm.{CoreForm}
-use Rattle.bound_unfolding.specs.CoreSeen.{core_tree_of}
+use Rattle.bound_unfolding.specs.CoreView.{core_tree_of}
 use Rattle.formula_table.specs.Closures.{with_core}
 use Rattle.formula_table.specs.Decoding.{formula_of}
 use Rattle.formula_table.specs.Tables.{closure_in, with_operands, IsKept, IsSubformula}

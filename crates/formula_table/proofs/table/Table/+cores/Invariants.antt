@@ -1,6 +1,6 @@
 use Rattle.std.proofs.Common.{◌*◌, ◌+◌}
 use Rattle.bound_unfolding.specs.CoreForm.{nodes}
-use Rattle.bound_unfolding.specs.CoreSeen.{core_tree_of}
+use Rattle.bound_unfolding.specs.CoreView.{core_tree_of}
 use Rattle.formula_table.proofs.table.Table.+cores.Given as goal
 
 abbrev pub decreases-put_core : goal.decreases-put_core

@@ -1,0 +1,8 @@
+use Rattle.std.specs.Prelude.{All}
+use Rattle.state_space.specs.Spaces.{ranges}
+use Rattle.temporal_logic.specs.Fits.{Fits}
+use Rattle.temporal_logic.specs.Trees.{tree_of}
+use Rattle.engine_tests.proofs.reading.formulas.Given as goal
+
+abbrev pub invariant-goals : goal.invariant-goals
+invariant-goals l = All (λ f. Fits (ranges l.model.space) (tree_of f)) l.list.items

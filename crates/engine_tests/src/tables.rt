@@ -1,0 +1,91 @@
+//! A table at its limit, and the numbers and shapes of the subformulas that cores bring.
+
+ghost use Rattle.goal_model.specs.Models.{model_of, IsWellFormed};
+
+use crate::reading::{core, goal, model};
+use formula_table::{FormulaId, PutRefusal, Shape, Table};
+use goal_model::Model;
+use source_sink::Memory;
+use std::alloc::Global;
+use std::fmt::Write;
+use std::process::Abort;
+use std::test::Fail;
+
+// The shapes of `eventually p` and `always not p`, by their numbers.
+const SHAPES: &str = "\
+True
+Lit(VarId(0), Values(2))
+Until(FormulaId(0), FormulaId(1))
+False
+Lit(VarId(0), Values(1))
+Release(FormulaId(3), FormulaId(4))
+";
+
+// Puts `next` of the last formula, or `true` where there is none.
+fn put_next(table: &mut Table) -> Result<FormulaId, PutRefusal> {
+    match table.len().checked_sub(1) {
+        None => table.put(Shape::True),
+        Some(last) => table.put(Shape::Next(FormulaId(last))),
+    }
+}
+
+#[test]
+fn limit(rt: HostRuntime) -> Result<(), Fail> {
+    let mut table = Table::new(rt.alloc());
+    for number in 0..4096 {
+        assert_eq!(rt; put_next(&mut table), Ok(FormulaId(number)));
+    }
+    assert_eq!(rt; put_next(&mut table), Err(PutRefusal::Full));
+    assert_eq!(rt; table.put(Shape::True), Ok(FormulaId(0)));
+    assert_eq!(rt; table.len(), 4096);
+    Ok(())
+}
+
+// Puts the core of a goal, and compares its number.
+fn put_goal(
+    rt: &impl Abort,
+    alloc: Global,
+    table: &mut Table,
+    model: &Model,
+    place: usize,
+    number: u16,
+) -> Result<(), Memory>
+    requires well_formed { IsWellFormed (model_of model.now) }
+{
+    assert!(rt; place < model.goals.len());
+    let core = core(rt, alloc, &model.space, goal(model, place), true)?;
+    assert_eq!(rt; table.put_core(&core), Ok(FormulaId(number)));
+    Ok(())
+}
+
+// The shapes of a table, a line each.
+fn shapes(alloc: Global, table: &Table) -> Result<String, Fail> {
+    let mut out = String::new(alloc);
+    for number in 0..table.len() {
+        writeln!(out, "{:?}", table.node(FormulaId(number)))?;
+    }
+    Ok(out)
+}
+
+// Puts the cores of two goals, the first of them again, and compares the table.
+fn compare(rt: &impl Abort, alloc: Global, model: &Model) -> Result<(), Fail>
+    requires well_formed { IsWellFormed (model_of model.now) }
+{
+    let mut table = Table::new(alloc);
+    for (place, number) in [(0, 2), (1, 5), (0, 2)] {
+        put_goal(rt, alloc, &mut table, model, place, number)?;
+    }
+    let text = shapes(alloc, &table)?;
+    assert_eq!(rt; text.as_str(), SHAPES);
+    assert!(rt; table.len() > 4);
+    assert!(rt; table.tree_eq(FormulaId(2), FormulaId(2)));
+    assert!(rt; !table.tree_eq(FormulaId(1), FormulaId(4)));
+    Ok(())
+}
+
+#[test]
+fn numbers_and_shapes(rt: HostRuntime) -> Result<(), Fail> {
+    let goals = "goal a: eventually p; goal b: always not p;";
+    let model = model(&rt, rt.alloc(), "var p: bool;", goals)?;
+    compare(&rt, rt.alloc(), &model)
+}

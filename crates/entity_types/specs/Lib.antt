@@ -1,0 +1,9 @@
+pub mod WrittenTrees
+pub mod Operators
+pub mod Rows
+pub mod OneProof
+pub mod View
+pub mod WrittenTruth
+pub mod Grounding
+pub mod Fits
+pub mod Joined

@@ -1,0 +1,132 @@
+//! Entity types of 2 to 8 members, and their attributes, each a row of variables of a space.
+
+ghost use Rattle.std.specs.Prelude.{◌≡◌, ◌≢◌, ◌≤◌, length, map, AllPairs};
+ghost use Rattle.entity_types.specs.Rows.{IsPlaced};
+ghost use Rattle.entity_types.specs.OneProof.{IsPlaced-prop};
+
+use source_sink::Memory;
+use state_space::{AddRefusal, Name, NameRefusal, Range, Space, VarId};
+use std::alloc::{AllocError, AllocFailed, Global};
+
+/// Why an entity type or an attribute is not added.
+#[derive(Clone, Copy, Debug, PartialEq, Eq)]
+pub enum EntityRefusal {
+    /// There are not 2 to 8 members, or a variable can not have the range.
+    BadRange,
+    /// The name of one of the attribute's variables is over 40 bytes.
+    LongName,
+    /// The space has the variable of this member, which is the first such one.
+    DuplicateName(u8),
+    /// More than 64 variables would be there.
+    TooManyVars,
+    /// Memory ran out.
+    Memory,
+}
+
+impl From<AllocError> for EntityRefusal {
+    ghost use Rattle.entity_types.specs.declared.entities.EntityRefusal.TheVariants.{Memory};
+
+    ghost from_gives = { λ _ e. e ≡ Memory };
+
+    fn from(_: AllocError) -> EntityRefusal {
+        EntityRefusal::Memory
+    }
+}
+
+impl<T: Drop> From<AllocFailed<T>> for EntityRefusal {
+    ghost use Rattle.entity_types.specs.declared.entities.EntityRefusal.TheVariants.{Memory};
+
+    ghost from_gives = { λ _ e. e ≡ Memory };
+
+    fn from(_: AllocFailed<T>) -> EntityRefusal {
+        EntityRefusal::Memory
+    }
+}
+
+// A type: 2 to 8 members, no two of one name.
+#[derive(Drop)]
+struct EntityType {
+    name: Name,
+    members: Vec<Name>,
+    ghost several: { 2 ≤ length members.items },
+    ghost few: { length members.items ≤ 8 },
+    ghost apart: { AllPairs (λ a b. a ≢ b) members.items },
+}
+
+// An attribute of a type. Its variables stand side by side.
+#[derive(Drop)]
+struct Attribute {
+    name: Name,
+    entity: u16,
+    first: u8,
+}
+
+/// Entity types and their attributes, in the order in which they were added.
+#[derive(Drop)]
+pub struct Entities {
+    types: Vec<EntityType>,
+    attributes: Vec<Attribute>,
+    pub ghost few: { length types.items ≤ 2000 },
+    pub ghost placed: { IsPlaced (record { counts = map (λ t. length t.members.items) types.items; owners = map (λ a. a.entity) attributes.items; firsts = map (λ a. a.first) attributes.items }) } by { IsPlaced-prop (record { counts = map (λ t. length t.members.items) types.items; owners = map (λ a. a.entity) attributes.items; firsts = map (λ a. a.first) attributes.items }) },
+}
+
+impl Entities {
+    ghost use Rattle.std.specs.Prelude.{◌⊎◌, ◌↔◌, ℕ, ◌+◌, ◌<◌, [], ◌∷◌, ◌++◌, IfOk, OnOk, OnErr, IfErr, IsErrOf};
+    ghost use Rattle.entity_types.specs.Rows.{count_of, owner_of, variable_of};
+    ghost use Rattle.entity_types.specs.View.{type_names, member_names, attribute_names, attributes, rows_of};
+    ghost use Rattle.entity_types.specs.declared.entities.EntityRefusal.TheVariants.{BadRange as BadRangeCause, Memory as MemoryCause};
+
+    /// No types. It takes no memory.
+    pub fn new(alloc: Global) -> Entities
+        ensures types { type_names result ≡ [] }
+        ensures members { member_names result ≡ [] }
+        ensures attributes { attribute_names result ≡ [] }
+    {
+        Entities {
+            types: Vec::new(alloc),
+            attributes: Vec::new(alloc),
+        }
+    }
+
+    /// How many members a type has, which is there: 2 to 8.
+    pub fn member_count(&self, entity: u16) -> u8
+        requires { entity < length (rows_of self.now).counts }
+        ensures count { result ≡ count_of (rows_of self.now) entity }
+        ensures several { 2 ≤ result }
+        ensures few { result ≤ 8 }
+    {
+        self.types[entity as usize].members.len() as u8
+    }
+
+    /// The variable of an attribute and a member of its type, which are there.
+    pub fn variable(&self, attr: u8, member: u8) -> VarId
+        requires attr { attr < length (rows_of self.now).owners }
+        requires member { member < count_of (rows_of self.now) (owner_of (rows_of self.now) attr) }
+        ensures variable { result.0 ≡ variable_of (rows_of self.now) attr member }
+    {
+        VarId(self.attributes[attr as usize].first + member)
+    }
+
+    /// Appends a type of members of distinct names, whose number is the old count. `BadRange` comes
+    /// exactly where there are not 2 to 8 members, and else only memory can be wanting. After a
+    /// refusal the entities are as they were.
+    pub fn add_entity(&mut self, name: Name, members: Vec<Name>) -> Result<u16, EntityRefusal>
+        requires distinct { AllPairs (λ a b. a ≢ b) members.items }
+        requires few { length (type_names self.old) < 2000 }
+        ensures bad_range { IsErrOf result EntityRefusal.BadRange ↔ ¬ ((2 ≤ length members.items) × (length members.items ≤ 8)) }
+        ensures causes { IfErr result (λ e. (e ≡ BadRangeCause) ⊎ (e ≡ MemoryCause)) }
+        ensures id { IfOk result (λ id. id ≡ length (type_names self.old)) }
+        ensures names { OnOk result (type_names self.new ≡ type_names self.old ++ name ∷ []) }
+        ensures members { OnOk result (member_names self.new ≡ member_names self.old ++ members.items ∷ []) }
+        ensures same_names { OnErr result (type_names self.new ≡ type_names self.old) }
+        ensures same_members { OnErr result (member_names self.new ≡ member_names self.old) }
+        ensures attributes { attributes self.new ≡ attributes self.old }
+    {
+        if !(2..=8).contains(&members.len()) {
+            return Err(EntityRefusal::BadRange);
+        }
+        let id = self.types.len() as u16;
+        self.types.push(EntityType { name, members })?;
+        Ok(id)
+    }
+}

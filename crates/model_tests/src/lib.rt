@@ -1,0 +1,25 @@
+//! Tests of models and of runs, over the libraries that make them: which texts make a model and which are refused, what a model has,
+//! what a run answers with which evidence, and what it does at faults. What is due is worked out by hand from the rules of the language,
+//! of truth and of reports.
+#![tactic(auto)]
+
+#[cfg(test)]
+mod evidence;
+#[cfg(test)]
+mod faults;
+#[cfg(test)]
+mod models;
+#[cfg(test)]
+mod operators;
+#[cfg(test)]
+mod parts;
+#[cfg(test)]
+mod refusals;
+#[cfg(test)]
+mod reports;
+#[cfg(test)]
+mod runs;
+#[cfg(test)]
+mod texts;
+#[cfg(test)]
+mod traces;
