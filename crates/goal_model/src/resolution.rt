@@ -25,16 +25,20 @@ use source_sink::Memory;
 use state_space::{AddRefusal, Name, Range, Space, State, VarId};
 use std::alloc::Global;
 use temporal_logic::Lasso;
+use thiserror::Error;
 
 /// Why statements make no model. Statements are counted from 1.
-#[derive(Clone, Copy, Debug, PartialEq, Eq)]
+#[derive(Clone, Copy, Debug, PartialEq, Eq, Error)]
 pub enum ModelRefusal {
     /// The statement has a form that is not built yet, and each one before it was resolved.
+    #[error("statement {0}: not built")]
     NotBuilt(u32),
     /// The statement can't be resolved, and each one before it was. Or all were, and it is the first refinement whose complete demand
     /// is too large.
+    #[error("statement {0}: unresolved")]
     Unresolved(u32),
     /// Memory ran out.
+    #[error("memory ran out")]
     Memory,
 }
 

@@ -101,6 +101,8 @@ another case | Kaos 1; | refused: syntax at byte 0
 all in a comment | # kaos 1; | refused: syntax at byte 9
 a bad byte | kaos 1; $ | refused: bad byte at 8
 a formula that is cut off | kaos 1; var a: bool; goal G: always (a or | refused: syntax at byte 41
+a text cut off behind a parenthesis | kaos 1; var a: bool; var b: bool; goal P: always (a or b) | refused: syntax at byte 57
+a text without its last semicolon | kaos 1; var a: bool; var b: bool; goal P: always (a or b); goal Q: always a; refine P by Q | refused: syntax at byte 90
 another version | kaos 3; | refused: syntax at byte 5
 an entity type | kaos 2; entity E: { e }; | refused: statement 2: NotBuilt
 an attribute | kaos 2; attr f of E: bool; | refused: statement 2: NotBuilt

@@ -4,18 +4,19 @@ use Rattle.std.proofs.lemmas.Option.{some_pair_parts}
 use Rattle.std.proofs.lemmas.List.{append-nil}
 use Rattle.state_space.specs.declared.keyword.Keyword.{Keyword}
 use Rattle.state_space.specs.declared.keyword.Keyword.TheVariants as keywords
-use Rattle.model_text.specs.declared.token.Sign.{Sign}
-use Rattle.model_text.specs.declared.token.Sign.TheVariants.{Colon, Comma, OpenParenthesis, CloseParenthesis, OpenBrace, CloseBrace}
+use Rattle.model_tokens.specs.declared.token.Sign.{Sign}
+use Rattle.model_tokens.specs.declared.token.Sign.TheVariants.{Colon, Comma, OpenParenthesis, CloseParenthesis, OpenBrace, CloseBrace}
 use Rattle.model_text.specs.declared.formula_reader.Opening.{Opening}
 use Rattle.model_text.specs.declared.formula_reader.Opening.TheVariants as openings
 use Rattle.model_text.specs.declared.formula_reader.Joining.{Joining}
 use Rattle.model_text.specs.declared.formula_reader.Joining.TheVariants as joinings
-use Rattle.model_text.specs.declared.token.Further.{Further}
-use Rattle.model_text.specs.declared.token.Further.TheVariants as furthers
+use Rattle.model_tokens.specs.declared.token.Further.{Further}
+use Rattle.model_tokens.specs.declared.token.Further.TheVariants as furthers
 use Rattle.temporal_logic.specs.Ltl.{Relation}
-use Rattle.model_text.specs.Tokens.{TokenForm, keyword, mark, name, number, further}
+use Rattle.model_tokens.specs.Tokens.{TokenForm, keyword, mark, name, number, further}
 use Rattle.model_text.specs.RawTrees.{WrittenValue, a_word, a_number, a_truth, an_attribute, RawTree, truth, falsity, eventually_within, always_within, conj, disj, implies, iff, entails, until_within, unless_within, release_within, for_all, for_some}
-use Rattle.model_text.specs.Leaves.{cut_name, bound_value, relation_of, value_of}
+use Rattle.model_tokens.specs.Values.{cut_name, bound_value}
+use Rattle.model_text.specs.Leaves.{relation_of, value_of}
 use Rattle.model_text.specs.FormulaGrammar.{Level, whole_level, iff_level, implies_level, or_level, and_level, tempo_level, prefix_level, primary_level, argument, SpellsValues, one_value, more_values, SpellsRight, a_value, an_attribute_value, SpellsFormula, a_truth, a_falsity, in_parentheses, a_flag, a_comparison, a_choice, a_flag_of, a_comparison_of, a_choice_of, a_universal, an_existential, a_primary, a_negation, a_next, an_eventually, an_always, an_eventually_within, an_always_within, a_prefix, an_until, an_unless, a_release, an_until_within, an_unless_within, a_release_within, a_tempo, a_conjunction, a_conjunct, a_disjunction, a_disjunct, an_implication, a_side, an_equivalence, a_whole, an_entailment}
 use Rattle.model_text.specs.Reading.{Reading, and_then, behind_keyword, behind_mark, behind_further, mark_at, further_at, name_at}
 use Rattle.model_text.specs.FormulaReading.{Reads, if_behind, read_as, steps_at, bound_at, value_or_fault, value_at, with_rest, comparison_at, more_values_at, values_at, choice_at, argument_at, right_with, right_behind, right_at, bare_with, compares_with, among_with, atom_by, atom_at, closed, primary_with, head_at, quantified_with, simple_with, opening_at, opened, prefix_behind, prefix_with, joining_at, joined, tempo_behind, tempo_with, chain, and_with, or_with, with_right, implies_from, implies_with, iff_with, whole_with, prefix_at}

@@ -2,11 +2,11 @@
 use Rattle.std.proofs.Common.{◌≡◌, ℕ, zero, suc, ◌<◌, ◌≤◌, List, [], ◌∷◌, length, Option, Some, None, Ok, Err, refl, sym, ap, ◌∙◌, length-append, arith}
 use Rattle.state_space.specs.declared.keyword.Keyword.{Keyword}
 use Rattle.state_space.specs.declared.keyword.Keyword.TheVariants as keywords
-use Rattle.model_text.specs.declared.token.Sign.TheVariants.{OpenParenthesis}
-use Rattle.model_text.specs.declared.token.Further.TheVariants as furthers
+use Rattle.model_tokens.specs.declared.token.Sign.TheVariants.{OpenParenthesis}
+use Rattle.model_tokens.specs.declared.token.Further.TheVariants as furthers
 use Rattle.model_text.specs.declared.formula_reader.Opening.{Opening}
 use Rattle.model_text.specs.declared.formula_reader.Joining.{Joining}
-use Rattle.model_text.specs.Tokens.{TokenForm}
+use Rattle.model_tokens.specs.Tokens.{TokenForm}
 use Rattle.model_text.specs.RawTrees.{RawTree, truth, falsity, conj, disj, implies, iff, entails, for_all, for_some}
 use Rattle.model_text.specs.FormulaGrammar.{Level, iff_level, implies_level, or_level, and_level, tempo_level, prefix_level}
 use Rattle.model_text.specs.Reading.{Reading, and_then, behind_keyword, behind_mark, behind_further, name_at}

@@ -4,16 +4,17 @@ use Rattle.std.specs.Prelude.{◌&&◌, is_none}
 use Rattle.state_space.specs.declared.keyword.Keyword.{Keyword}
 use Rattle.state_space.specs.declared.keyword.Keyword.TheVariants as keywords
 use Rattle.temporal_logic.specs.Ltl.{Relation}
-use Rattle.model_text.specs.declared.token.Sign.{Sign}
-use Rattle.model_text.specs.declared.token.Sign.TheVariants.{Colon, Comma, OpenParenthesis, CloseParenthesis, OpenBrace, CloseBrace}
-use Rattle.model_text.specs.declared.token.Further.TheVariants as furthers
+use Rattle.model_tokens.specs.declared.token.Sign.{Sign}
+use Rattle.model_tokens.specs.declared.token.Sign.TheVariants.{Colon, Comma, OpenParenthesis, CloseParenthesis, OpenBrace, CloseBrace}
+use Rattle.model_tokens.specs.declared.token.Further.TheVariants as furthers
 use Rattle.model_text.specs.declared.formula_reader.Opening.{Opening}
 use Rattle.model_text.specs.declared.formula_reader.Opening.TheVariants as openings
 use Rattle.model_text.specs.declared.formula_reader.Joining.{Joining}
 use Rattle.model_text.specs.declared.formula_reader.Joining.TheVariants as joinings
-use Rattle.model_text.specs.Tokens.{TokenForm, keyword, mark, name, number, further, stray, bad_byte}
+use Rattle.model_tokens.specs.Tokens.{TokenForm, keyword, mark, name, number, further, stray, bad_byte}
 use Rattle.model_text.specs.RawTrees.{WrittenValue, a_truth, a_number, a_word, an_attribute, RawTree, truth, falsity, for_all, for_some, conj, disj, implies, iff, entails}
-use Rattle.model_text.specs.Leaves.{bound_value, relation_of, value_of}
+use Rattle.model_tokens.specs.Values.{bound_value}
+use Rattle.model_text.specs.Leaves.{relation_of, value_of}
 use Rattle.model_text.specs.FormulaGrammar.{Level, or_level, and_level, tempo_level, prefix_level}
 use Rattle.model_text.specs.Reading.{Reading, and_then, behind_keyword, behind_mark, behind_further, mark_at, further_at, name_at}
 use Rattle.model_text.specs.FormulaReading.{Reads, if_behind, read_as, steps_at, bound_at, value_or_fault, value_at, with_rest, comparison_at, more_values_at, values_at, choice_at, argument_at, right_with, right_behind, right_at, bare_with, compares_with, among_with, atom_by, atom_at, primary_with, head_at, quantified_with, simple_with, opening_at, opened, prefix_behind, prefix_with, joining_at, joined, tempo_behind, tempo_with, chain, and_with, or_with, with_right, implies_from, implies_with, iff_with, whole_with, prefix_at, iff_at, whole_at, ends_atom, ends_tempo, ends_and, ends_or, ends_implies, ends_iff, ends_whole}

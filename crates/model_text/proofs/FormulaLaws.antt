@@ -1,7 +1,7 @@
 -- Reading a formula and spelling it are one.
 use Rattle.std.proofs.Common.{◌≡◌, ℕ, ◌<◌, ◌≤◌, true, List, [], ◌++◌, length, Ok, refl, sym, ap, ◌∙◌, length-append, arith}
 use Rattle.std.proofs.lemmas.List.{append-nil}
-use Rattle.model_text.specs.Tokens.{TokenForm}
+use Rattle.model_tokens.specs.Tokens.{TokenForm}
 use Rattle.model_text.specs.RawTrees.{RawTree}
 use Rattle.model_text.specs.FormulaGrammar.{Level, whole_level, iff_level, SpellsFormula, a_truth, a_falsity, in_parentheses, a_flag, a_comparison, a_choice, a_flag_of, a_comparison_of, a_choice_of, a_universal, an_existential, a_primary, a_negation, a_next, an_eventually, an_always, an_eventually_within, an_always_within, a_prefix, an_until, an_unless, a_release, an_until_within, an_unless_within, a_release_within, a_tempo, a_conjunction, a_conjunct, a_disjunction, a_disjunct, an_implication, a_side, an_equivalence, a_whole, an_entailment}
 use Rattle.model_text.specs.FormulaReading.{prefix_at, iff_at, whole_at, ends_iff, ends_whole}

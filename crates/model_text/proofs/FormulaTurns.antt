@@ -1,8 +1,8 @@
 -- Reading a formula, a turn at a time.
 use Rattle.std.proofs.Common.{◌≡◌, ℕ, zero, suc, ◌-◌, ◌<◌, ◌≤◌, List, [], ◌∷◌, ◌++◌, length, Option, Some, None, Ok, Err, refl, ap, arith}
 use Rattle.state_space.specs.declared.keyword.Keyword.TheVariants as keywords
-use Rattle.model_text.specs.declared.token.Sign.TheVariants.{Comma}
-use Rattle.model_text.specs.Tokens.{TokenForm, keyword, mark, name, number, further, stray, bad_byte}
+use Rattle.model_tokens.specs.declared.token.Sign.TheVariants.{Comma}
+use Rattle.model_tokens.specs.Tokens.{TokenForm, keyword, mark, name, number, further, stray, bad_byte}
 use Rattle.model_text.specs.RawTrees.{WrittenValue, a_word, RawTree}
 use Rattle.model_text.specs.Reading.{and_then, behind_keyword, behind_mark, name_at}
 use Rattle.model_text.specs.FormulaReading.{Reads, read_as, number_behind, value_at, more_values_at, opening_at, atom_at, primary_with, simple_with, prefix_with, chain, or_with, implies_from, prefix_at, whole_at}

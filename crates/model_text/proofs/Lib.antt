@@ -1,5 +1,3 @@
-pub mod Steps
-pub mod CutNames
 pub mod Turns
 pub mod FormulaTokens
 pub mod FormulaTurns

@@ -12,8 +12,8 @@ use Rattle.model_text.specs.declared.statement.Statement as code
 use Rattle.model_text.specs.declared.statement.RawState.{RawState}
 use Rattle.model_text.specs.Statements.{StatementForm, settings_of, statement_of, all_statements}
 use Rattle.model_text.specs.StatementReading.{setting_of}
-use Rattle.model_text.specs.Tokens.{TokenForm, keyword, mark}
-use Rattle.model_text.specs.declared.token.Sign.TheVariants.{Comma, Semicolon}
+use Rattle.model_tokens.specs.Tokens.{TokenForm, keyword, mark}
+use Rattle.model_tokens.specs.declared.token.Sign.TheVariants.{Comma, Semicolon}
 use Rattle.model_text.specs.Layout.{written_statement, written_text, laid, gap, token_bytes, holds_on}
 use Rattle.model_text.specs.Writing.{statement_tokens, number_token, value_token, separated, names_tokens, values_tokens, part_tokens, set_tokens, state_tokens}
 use Rattle.model_text.specs.Lines.{LineForm, with_bytes, with_token, with_tokens, behind_commas}

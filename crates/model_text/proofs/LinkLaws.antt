@@ -4,11 +4,11 @@ use Rattle.std.proofs.lemmas.List.{append-nil}
 use Rattle.std.proofs.lemmas.Bool.Decides.{nat_tests}
 use Rattle.std.specs.Prelude.{if◌then◌else◌, nat_le}
 use Rattle.state_space.specs.declared.keyword.Keyword.TheVariants as keywords
-use Rattle.model_text.specs.declared.token.Sign.TheVariants.{Semicolon, Comma}
+use Rattle.model_tokens.specs.declared.token.Sign.TheVariants.{Semicolon, Comma}
 use Rattle.model_text.specs.declared.statement.Role.{Role}
 use Rattle.model_text.specs.declared.statement.Role.TheVariants as roles
-use Rattle.model_text.specs.Tokens.{TokenForm, keyword, mark, name}
-use Rattle.model_text.specs.Leaves.{cut_name}
+use Rattle.model_tokens.specs.Tokens.{TokenForm, keyword, mark, name}
+use Rattle.model_tokens.specs.Values.{cut_name}
 use Rattle.model_text.specs.FormulaGrammar.{whole_level, SpellsFormula}
 use Rattle.model_text.specs.Reading.{Reading, behind_keyword, behind_mark, name_at}
 use Rattle.model_text.specs.Readers.{after, counted, if_word}

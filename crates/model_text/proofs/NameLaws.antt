@@ -4,10 +4,10 @@ use Rattle.std.proofs.lemmas.Bool.{eq-eqb}
 use Rattle.state_space.specs.declared.keyword.Keyword.{Keyword}
 use Rattle.state_space.specs.declared.keyword.Keyword.TheVariants as keywords
 use Rattle.state_space.specs.Keywords.{number as keyword_number}
-use Rattle.model_text.specs.declared.token.Sign.TheVariants.{Colon, Comma}
-use Rattle.model_text.specs.Tokens.{TokenForm, keyword, mark, name}
+use Rattle.model_tokens.specs.declared.token.Sign.TheVariants.{Colon, Comma}
+use Rattle.model_tokens.specs.Tokens.{TokenForm, keyword, mark, name}
 use Rattle.model_text.specs.RawTrees.{RawTree}
-use Rattle.model_text.specs.Leaves.{cut_name}
+use Rattle.model_tokens.specs.Values.{cut_name}
 use Rattle.model_text.specs.FormulaGrammar.{whole_level, iff_level, SpellsFormula}
 use Rattle.model_text.specs.FormulaReading.{ends_iff, ends_whole}
 use Rattle.model_text.specs.Grammar.{SpellsNames, one_name, more_names, SpellsPart, no_part, a_part}

@@ -4,15 +4,16 @@ use Rattle.std.specs.Prelude.{max, nat_le, pos, negsuc, map, flat_map, if◌then
 use Rattle.state_space.specs.declared.keyword.Keyword.{Keyword}
 use Rattle.state_space.specs.declared.keyword.Keyword.TheVariants as keywords
 use Rattle.state_space.specs.Ranges.{RangeForm}
-use Rattle.model_text.specs.declared.token.Sign.{Sign}
-use Rattle.model_text.specs.declared.token.Sign.TheVariants.{Semicolon, Colon, Comma, Equal, Dots, OpenParenthesis, CloseParenthesis, OpenBrace, CloseBrace}
+use Rattle.model_tokens.specs.declared.token.Sign.{Sign}
+use Rattle.model_tokens.specs.declared.token.Sign.TheVariants.{Semicolon, Colon, Comma, Equal, Dots, OpenParenthesis, CloseParenthesis, OpenBrace, CloseBrace}
 use Rattle.model_text.specs.declared.statement.Role.{Role}
 use Rattle.temporal_logic.specs.Ltl.{Relation, is_same, is_other, is_below, is_at_most, is_above, is_at_least}
-use Rattle.model_text.specs.declared.token.Further.{Further}
-use Rattle.model_text.specs.declared.token.Further.TheVariants as furthers
-use Rattle.model_text.specs.Tokens.{TokenForm, keyword, mark, name, number, further, stray, bad_byte}
+use Rattle.model_tokens.specs.declared.token.Further.{Further}
+use Rattle.model_tokens.specs.declared.token.Further.TheVariants as furthers
+use Rattle.model_tokens.specs.Tokens.{TokenForm, keyword, mark, name, number, further, stray, bad_byte}
 use Rattle.model_text.specs.RawTrees.{WrittenValue, a_word, a_number, a_truth, an_attribute as attribute_value, RawTree, for_all, for_some, neg, next, eventually, always, eventually_within, always_within, conj, disj, implies, iff, entails, until, unless, release, until_within, unless_within, release_within}
-use Rattle.model_text.specs.Leaves.{cut_name, number_value, bound_value, value_of, relation_of}
+use Rattle.model_tokens.specs.Values.{cut_name, number_value, bound_value}
+use Rattle.model_text.specs.Leaves.{value_of, relation_of}
 use Rattle.model_text.specs.Statements.{Setting, StatementForm}
 use Rattle.model_text.specs.FormulaGrammar.{Level, whole_level, iff_level, implies_level, or_level, and_level, tempo_level, prefix_level, argument, SpellsValues, one_value, more_values, SpellsRight, a_value, an_attribute_value, SpellsFormula, a_truth, a_falsity, in_parentheses, a_flag, a_comparison, a_choice, a_flag_of, a_comparison_of, a_choice_of, a_universal, an_existential, a_primary, a_negation, a_next, an_eventually, an_always, an_eventually_within, an_always_within, a_prefix, an_until, an_unless, a_release, an_until_within, an_unless_within, a_release_within, a_tempo, a_conjunction, a_conjunct, a_disjunction, a_disjunct, an_implication, a_side, an_equivalence, a_whole, an_entailment}
 use Rattle.model_text.specs.Writing.{value_token, right_tokens, sign_of, tightness, enclosed, values_tokens, within_tokens, formula_tokens, separated, names_tokens, whole_tokens, range_tokens, part_tokens, pattern_tokens, exact_tokens, role_token, set_tokens, state_tokens, statement_tokens}

@@ -2,10 +2,10 @@
 use Rattle.std.proofs.Common.{◌≡◌, ℕ, zero, suc, List, [], ◌∷◌, ◌++◌, length, Option, Some, None, Ok, refl, sym, ap, subst, ◌∙◌, append_assoc, inl, inr}
 use Rattle.std.proofs.lemmas.List.{append-nil}
 use Rattle.state_space.specs.declared.keyword.Keyword.{Keyword}
-use Rattle.model_text.specs.declared.token.Sign.{Sign}
-use Rattle.model_text.specs.declared.token.Sign.TheVariants.{Comma}
-use Rattle.model_text.specs.Tokens.{TokenForm, keyword, mark, name}
-use Rattle.model_text.specs.Leaves.{cut_name}
+use Rattle.model_tokens.specs.declared.token.Sign.{Sign}
+use Rattle.model_tokens.specs.declared.token.Sign.TheVariants.{Comma}
+use Rattle.model_tokens.specs.Tokens.{TokenForm, keyword, mark, name}
+use Rattle.model_tokens.specs.Values.{cut_name}
 use Rattle.model_text.specs.Reading.{Reading, and_then, behind_keyword, behind_mark, keyword_at, mark_at, name_at}
 use Rattle.model_text.specs.FormulaReading.{if_behind}
 use Rattle.model_text.specs.Readers.{Reader, after, counted, if_word, if_sign, giving, nowhere, more_at, listed_at}

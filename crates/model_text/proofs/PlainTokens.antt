@@ -1,32 +1,19 @@
 -- The tokens that a version makes of those of version 1.
-use Rattle.std.proofs.Common.{◌≡◌, ℕ, Bool, true, false, List, [], ◌∷◌, ◌++◌, length, map, codes, Option, Some, None, refl, sym, ap, ◌∙◌, arith}
-use Rattle.std.specs.Prelude.{bytes_eq, if◌then◌else◌}
-use Rattle.std.proofs.lemmas.Slice.Eq.{bytes_eq-Decides}
+use Rattle.std.proofs.Common.{◌≡◌, ℕ, Bool, true, false, List, [], ◌∷◌, ◌++◌, length, map, Option, Some, None, refl, sym, ap, ◌∙◌, arith}
+use Rattle.std.specs.Prelude.{if◌then◌else◌}
 use Rattle.state_space.specs.declared.keyword.Keyword.TheVariants as keywords
-use Rattle.model_text.specs.declared.token.Sign.TheVariants.{OpenParenthesis}
-use Rattle.model_text.specs.declared.token.Further.{Further}
-use Rattle.model_text.specs.declared.token.Further.TheVariants as furthers
-use Rattle.model_text.specs.Tokens.{TokenForm, keyword, mark, name, number, further, stray, bad_byte}
-use Rattle.model_text.specs.Versions.{further_word, word_or_name, second_form, is_name, second_forms, is_second_number, is_second, version_forms}
+use Rattle.model_tokens.specs.declared.token.Sign.TheVariants.{OpenParenthesis}
+use Rattle.model_tokens.specs.declared.token.Further.{Further}
+use Rattle.model_tokens.specs.Tokens.{TokenForm, keyword, mark, name, number, further, stray, bad_byte}
+use Rattle.model_tokens.specs.Versions.{further_word, word_or_name, second_form, is_name, second_forms, is_second_number, is_second, version_forms}
 use Rattle.model_text.specs.Writable.{plain}
+use Rattle.model_tokens.proofs.CutNames.{further_word-cases}
 use Rattle.model_text.proofs.ReadTokens.{AllOf, IsLexed}
 
 -- ---- as version 1 has them again
 
 further_plain : (word : List ℕ) (f : Further) → further_word word ≡ Some f → plain (further f) ≡ name word
-unfolding further_word
-further_plain word f e = by_entity (bytes_eq word (codes "entity")) (bytes_eq word (codes "attr")) (bytes_eq word (codes "all")) (bytes_eq word (codes "some")) (bytes_eq-Decides word (codes "entity")).0 (bytes_eq-Decides word (codes "attr")).0 (bytes_eq-Decides word (codes "all")).0 (bytes_eq-Decides word (codes "some")).0 e
-  where
-    spelled : (g : Further) (other : List ℕ) → plain (further g) ≡ name other → word ≡ other → g ≡ f → plain (further f) ≡ name word
-    spelled g other is same found = ap (λ (h : Further). plain (further h)) (sym found) ∙ is ∙ ap (λ (w : List ℕ). name w) (sym same)
-
-    by_entity : (a b c d : Bool) → (a ≡ true → word ≡ codes "entity") → (b ≡ true → word ≡ codes "attr") → (c ≡ true → word ≡ codes "all") → (d ≡ true → word ≡ codes "some")
-        → (if a then Some furthers.Entity else (if b then Some furthers.Attr else (if c then Some furthers.All else (if d then Some furthers.Some else None)))) ≡ Some f → plain (further f) ≡ name word
-    by_entity true b c d p q r s e = spelled furthers.Entity (codes "entity") refl (p refl) cc
-    by_entity false true c d p q r s e = spelled furthers.Attr (codes "attr") refl (q refl) cc
-    by_entity false false true d p q r s e = spelled furthers.All (codes "all") refl (r refl) cc
-    by_entity false false false true p q r s e = spelled furthers.Some (codes "some") refl (s refl) cc
-    by_entity false false false false p q r s e = absurd cc
+further_plain word f e = further_word-cases (λ g w. plain (further g) ≡ name w) refl refl refl refl word f e
 
 plain_word : (o : Option Further) (word : List ℕ) → further_word word ≡ o → plain (word_or_name o word) ≡ name word
 plain_word (Some f) word e = further_plain word f e

@@ -2,11 +2,11 @@
 use Rattle.std.proofs.Common.{◌≡◌, ℕ, Bool, ℤ, List, [], ◌∷◌, ◌++◌, Ok, refl, ap, subst, append_assoc}
 use Rattle.state_space.specs.declared.keyword.Keyword.TheVariants as keywords
 use Rattle.state_space.specs.Ranges.{RangeForm, truth_values, named, span}
-use Rattle.model_text.specs.declared.token.Sign.TheVariants.{Colon, Dots, OpenBrace, CloseBrace}
-use Rattle.model_text.specs.declared.token.Further.TheVariants as furthers
-use Rattle.model_text.specs.Tokens.{TokenForm, keyword, mark, number, further}
+use Rattle.model_tokens.specs.declared.token.Sign.TheVariants.{Colon, Dots, OpenBrace, CloseBrace}
+use Rattle.model_tokens.specs.declared.token.Further.TheVariants as furthers
+use Rattle.model_tokens.specs.Tokens.{TokenForm, keyword, mark, number, further}
 use Rattle.model_text.specs.RawTrees.{RawTree}
-use Rattle.model_text.specs.Leaves.{number_value}
+use Rattle.model_tokens.specs.Values.{number_value}
 use Rattle.model_text.specs.FormulaGrammar.{whole_level, iff_level, SpellsFormula}
 use Rattle.model_text.specs.Statements.{StatementForm, variable, entity_type, attribute, domain, rule, goal, obstacle}
 use Rattle.model_text.specs.Grammar.{SpellsNames, SpellsRange, a_boolean, an_enumeration, a_span, SpellsStatement, a_variable, an_entity_type, an_attribute, a_domain, a_rule, a_goal, an_obstacle}

@@ -6,12 +6,12 @@ use Rattle.std.specs.Char.{is_ascii_digit}
 use Rattle.state_space.specs.declared.keyword.Keyword.{Keyword}
 use Rattle.state_space.specs.Keywords.{keyword_of}
 use Rattle.state_space.specs.Names.{is_word_byte, has_name_form}
-use Rattle.model_text.specs.declared.token.Sign.{Sign}
-use Rattle.model_text.specs.declared.token.Sign.TheVariants.{OpenParenthesis, Below, Above}
-use Rattle.model_text.specs.declared.token.Further.{Further}
-use Rattle.model_text.specs.Versions.{further_word, word_or_name, second_form, is_name, second_forms, is_second, text_forms}
-use Rattle.model_text.specs.Tokens.{TokenForm, keyword, mark, name, number, further, stray, bad_byte, Placed}
-use Rattle.model_text.specs.Lexing.{Before, between, comment, within, behind, word_form, word_token, negative_word, lone_form, ended, single_of, alone_form, alone, fresh, is_blank, may_go_on, next, pair_of, behind_next, behind_emitted, emitted, tokens_from, tokens_of, forms_of}
+use Rattle.model_tokens.specs.declared.token.Sign.{Sign}
+use Rattle.model_tokens.specs.declared.token.Sign.TheVariants.{OpenParenthesis, Below, Above}
+use Rattle.model_tokens.specs.declared.token.Further.{Further}
+use Rattle.model_tokens.specs.Versions.{further_word, word_or_name, second_form, is_name, second_forms, is_second, text_forms}
+use Rattle.model_tokens.specs.Tokens.{TokenForm, keyword, mark, name, number, further, stray, bad_byte, Placed}
+use Rattle.model_tokens.specs.Lexing.{Before, between, comment, within, behind, word_form, word_token, negative_word, lone_form, ended, single_of, alone_form, alone, fresh, is_blank, may_go_on, next, pair_of, behind_next, behind_emitted, emitted, tokens_from, tokens_of, forms_of}
 
 -- each token of a list has a property
 abbrev pub AllOf : (TokenForm → Type 0) → List TokenForm → Type 0

@@ -5,18 +5,18 @@ use Rattle.std.proofs.lemmas.Bool.Decides.{nat_tests}
 use Rattle.state_space.specs.declared.keyword.Keyword.{Keyword}
 use Rattle.state_space.specs.declared.keyword.Keyword.TheVariants as keywords
 use Rattle.state_space.specs.Ranges.{truth_values, named, span}
-use Rattle.model_text.specs.declared.token.Sign.TheVariants.{Semicolon, Colon, Comma, Equal, Dots, OpenBrace, CloseBrace}
-use Rattle.model_text.specs.declared.token.Further.TheVariants as furthers
+use Rattle.model_tokens.specs.declared.token.Sign.TheVariants.{Semicolon, Colon, Comma, Equal, Dots, OpenBrace, CloseBrace}
+use Rattle.model_tokens.specs.declared.token.Further.TheVariants as furthers
 use Rattle.model_text.specs.declared.statement.Role.TheVariants as roles
-use Rattle.model_text.specs.Tokens.{TokenForm, keyword, mark, name, number, further, stray, bad_byte}
+use Rattle.model_tokens.specs.Tokens.{TokenForm, keyword, mark, name, number, further, stray, bad_byte}
 use Rattle.model_text.specs.RawTrees.{RawTree}
-use Rattle.model_text.specs.Leaves.{number_value}
+use Rattle.model_tokens.specs.Values.{number_value}
 use Rattle.model_text.specs.Reading.{Reading, and_then, behind_mark, name_at}
 use Rattle.model_text.specs.Readers.{Reader, after, if_sign, giving, nowhere, more_at, listed_at}
 use Rattle.model_text.specs.FormulaReading.{if_behind, ends_iff, ends_whole}
 use Rattle.model_text.specs.Statements.{Setting, StatementForm, variable, entity_type, attribute, domain, rule, goal, obstacle, refinement, obstruction, conflict, agent, assignment, expectation, operation, requirement, operationalisation, trace}
 use Rattle.model_text.specs.StatementReading.{names_at, declared_name_at, pair_at, group_at, part_at, body_behind, number_at, span_at, enumeration_at, range_at, variable_at, members_at, entity_type_at, attribute_at, named_body_at, rule_at, pattern_at, refinement_at, obstruction_at, if_several, several_at, conflict_at, agent_at, assignment_at, expectation_at, operation_at, role_at, requirement_at, exact_at, operationalisation_at, set_at, some_sets_at, state_at, states_at, if_some, cycle_at, trace_at, statement_at}
-use Rattle.model_text.specs.declared.token.Sign.{Sign}
+use Rattle.model_tokens.specs.declared.token.Sign.{Sign}
 use Rattle.model_text.proofs.FormulaTokens.{ok_parts, and_then_ok, if_behind_cases, both_left, both_right}
 use Rattle.model_text.proofs.FormulaFuel.{same_then}
 use Rattle.model_text.proofs.ReaderLaws.{Ends, anything, Law, SomeLaw, law_as, law_before, giving_law, after_law, then_law, counted_law, Picked, lead, lead_only}

@@ -2,10 +2,10 @@
 use Rattle.std.proofs.Common.{◌≡◌, List, [], ◌∷◌, ◌++◌, Ok, refl, ap, append_assoc}
 use Rattle.state_space.specs.declared.keyword.Keyword.{Keyword}
 use Rattle.state_space.specs.declared.keyword.Keyword.TheVariants as keywords
-use Rattle.model_text.specs.declared.token.Sign.TheVariants.{Semicolon}
-use Rattle.model_text.specs.declared.token.Further.{Further}
-use Rattle.model_text.specs.declared.token.Further.TheVariants as furthers
-use Rattle.model_text.specs.Tokens.{TokenForm, keyword, mark, further}
+use Rattle.model_tokens.specs.declared.token.Sign.TheVariants.{Semicolon}
+use Rattle.model_tokens.specs.declared.token.Further.{Further}
+use Rattle.model_tokens.specs.declared.token.Further.TheVariants as furthers
+use Rattle.model_tokens.specs.Tokens.{TokenForm, keyword, mark, further}
 use Rattle.model_text.specs.Statements.{StatementForm}
 use Rattle.model_text.specs.Grammar.{SpellsStatement, a_variable, an_entity_type, an_attribute, a_domain, a_rule, a_goal, an_obstacle, a_refinement, an_obstruction, a_conflict, an_agent, an_assignment, an_expectation, an_operation, a_requirement, an_operationalisation, a_trace}
 use Rattle.model_text.specs.Reading.{name_at}

@@ -4,12 +4,12 @@ use Rattle.std.specs.Prelude.{slice_index_or}
 use Rattle.std.specs.List.{list_all}
 use Rattle.std.proofs.lemmas.List.{append-nil, length-map, map-append}
 use Rattle.state_space.specs.declared.keyword.Keyword.TheVariants as keywords
-use Rattle.model_text.specs.declared.token.Sign.TheVariants.{Semicolon}
-use Rattle.model_text.specs.declared.token.Further.TheVariants as furthers
-use Rattle.model_text.specs.Tokens.{TokenForm, keyword, mark, name, number, further, stray, bad_byte, Placed}
-use Rattle.model_text.specs.Lexing.{tokens_of, forms_of}
-use Rattle.model_text.specs.Versions.{version_named, is_second, version_forms, text_forms}
-use Rattle.model_text.specs.Leaves.{magnitude}
+use Rattle.model_tokens.specs.declared.token.Sign.TheVariants.{Semicolon}
+use Rattle.model_tokens.specs.declared.token.Further.TheVariants as furthers
+use Rattle.model_tokens.specs.Tokens.{TokenForm, keyword, mark, name, number, further, stray, bad_byte, Placed}
+use Rattle.model_tokens.specs.Lexing.{tokens_of, forms_of}
+use Rattle.model_tokens.specs.Versions.{version_named, is_second, version_forms, text_forms}
+use Rattle.model_tokens.specs.Values.{magnitude}
 use Rattle.model_text.specs.Writable.{AreWritable, plain}
 use Rattle.model_text.specs.Layout.{laid}
 use Rattle.model_text.specs.Statements.{StatementForm, version}

@@ -4,10 +4,10 @@ use Rattle.std.proofs.lemmas.List.{append-nil}
 use Rattle.std.proofs.lemmas.Bool.{eqb-true, eq-eqb}
 use Rattle.std.specs.Prelude.{if◌then◌else◌, neg_ℤ, ◌==◌}
 use Rattle.state_space.specs.declared.keyword.Keyword.TheVariants as keywords
-use Rattle.model_text.specs.declared.token.Sign.TheVariants.{Semicolon}
-use Rattle.model_text.specs.Tokens.{TokenForm, keyword, mark, number}
-use Rattle.model_text.specs.Leaves.{magnitude, number_value}
-use Rattle.model_text.specs.Versions.{version_named, is_second_number}
+use Rattle.model_tokens.specs.declared.token.Sign.TheVariants.{Semicolon}
+use Rattle.model_tokens.specs.Tokens.{TokenForm, keyword, mark, number}
+use Rattle.model_tokens.specs.Values.{magnitude, number_value}
+use Rattle.model_tokens.specs.Versions.{version_named, is_second_number}
 use Rattle.model_text.specs.Statements.{StatementForm, version}
 use Rattle.model_text.specs.Grammar.{SpellsStatement, SpellsStatements, no_statement, one_more, SpellsText, a_text, a_second_text}
 use Rattle.model_text.specs.Reading.{and_then, keyword_at, mark_at}

@@ -3,10 +3,10 @@ use Rattle.std.specs.Prelude.{slice_index_or}
 use Rattle.std.proofs.Common.{◌≡◌, ℕ, suc, ◌+◌, ◌*◌, ◌-◌, ◌<◌, ◌≤◌, Bool, true, false, if◌then◌else◌, length, List, [], ◌∷◌, map, Option, Some, None, Ok, Err, refl, sym, ap, subst, ◌∙◌, arith}
 use Rattle.std.proofs.lemmas.List.{length-map}
 use Rattle.model_text.proofs.TokenCounts.{few_tokens}
-use Rattle.model_text.specs.declared.token.Token as code
-use Rattle.model_text.specs.Tokens.{TokenForm, Placed, form_of, all_placed}
-use Rattle.model_text.specs.Lexing.{tokens_of, forms_of}
-use Rattle.model_text.specs.Versions.{second_form, is_name, second_forms, is_second, version_forms, text_forms}
+use Rattle.model_tokens.specs.declared.token.Token as code
+use Rattle.model_tokens.specs.Tokens.{TokenForm, Placed, form_of, all_placed}
+use Rattle.model_tokens.specs.Lexing.{tokens_of, forms_of}
+use Rattle.model_tokens.specs.Versions.{second_form, is_name, second_forms, is_second, version_forms, text_forms}
 use Rattle.model_text.specs.Statements.{StatementForm}
 use Rattle.model_text.specs.declared.limits.LimitKind.{LimitKind}
 use Rattle.model_text.specs.declared.limits.LimitKind.TheVariants.{Operators}

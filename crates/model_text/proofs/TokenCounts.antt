@@ -5,9 +5,9 @@ use Rattle.std.specs.List.{list_all}
 use Rattle.std.specs.Char.{is_ascii_digit}
 use Rattle.std.proofs.lemmas.List.{length-map}
 use Rattle.state_space.specs.Names.{is_word_byte}
-use Rattle.model_text.specs.declared.token.Sign.{Sign}
-use Rattle.model_text.specs.Tokens.{Placed, bad_byte}
-use Rattle.model_text.specs.Lexing.{Before, between, comment, within, behind, negative_word, ended, single_of, alone_form, alone, is_blank, may_go_on, pair_of, lone_form, behind_emitted, emitted, next, tokens_from, tokens_of}
+use Rattle.model_tokens.specs.declared.token.Sign.{Sign}
+use Rattle.model_tokens.specs.Tokens.{Placed, bad_byte}
+use Rattle.model_tokens.specs.Lexing.{Before, between, comment, within, behind, negative_word, ended, single_of, alone_form, alone, is_blank, may_go_on, pair_of, lone_form, behind_emitted, emitted, next, tokens_from, tokens_of}
 
 -- either of two lists has at most so many elements
 either_few : (b : Bool) (xs ys : List Placed) (n : ℕ) → length xs ≤ n → length ys ≤ n → length (if b then xs else ys) ≤ n

@@ -4,12 +4,12 @@ use Rattle.std.specs.Prelude.{◌==◌, is_none, if◌then◌else◌}
 use Rattle.std.proofs.lemmas.Bool.{eq-eqb}
 use Rattle.state_space.specs.declared.keyword.Keyword.{Keyword}
 use Rattle.state_space.specs.Keywords.{number as keyword_number, statement_word, part_word, operator_word}
-use Rattle.model_text.specs.declared.token.Sign.{Sign}
-use Rattle.model_text.specs.declared.token.Sign.TheVariants.{Comma}
-use Rattle.model_text.specs.Tokens.{TokenForm, keyword, mark, name, number, further, stray, bad_byte, number_of, further_number}
-use Rattle.model_text.specs.declared.token.Further.{Further}
-use Rattle.model_text.specs.Versions.{further_word}
-use Rattle.model_text.specs.Leaves.{cut_name}
+use Rattle.model_tokens.specs.declared.token.Sign.{Sign}
+use Rattle.model_tokens.specs.declared.token.Sign.TheVariants.{Comma}
+use Rattle.model_tokens.specs.Tokens.{TokenForm, keyword, mark, name, number, further, stray, bad_byte, number_of, further_number}
+use Rattle.model_tokens.specs.declared.token.Further.{Further}
+use Rattle.model_tokens.specs.Versions.{further_word}
+use Rattle.model_tokens.specs.Values.{cut_name}
 use Rattle.model_text.specs.Writable.{AreWritable}
 use Rattle.model_text.specs.Reading.{Reading, and_then, required, behind_keyword, behind_mark, behind_further, keyword_at, mark_at, further_at, name_at}
 use Rattle.model_text.specs.FormulaReading.{if_behind}

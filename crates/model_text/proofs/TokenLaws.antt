@@ -1,11 +1,10 @@
 -- What stands before the tokens behind a wanted token, and what a step that did not fail has read.
 use Rattle.std.proofs.Common.{◌≡◌, ℕ, List, [], ◌∷◌, Option, Some, None, Ok, Err, refl, sym, ap}
 use Rattle.state_space.specs.declared.keyword.Keyword.{Keyword}
-use Rattle.model_text.specs.declared.token.Sign.{Sign}
-use Rattle.model_text.specs.Tokens.{TokenForm, keyword, mark, name, number, further, stray, bad_byte}
-use Rattle.model_text.specs.Leaves.{cut_name}
-use Rattle.model_text.specs.Reading.{Reading, and_then, behind_keyword, behind_mark, required, keyword_at, mark_at, name_at}
-use Rattle.model_text.proofs.FormulaTokens.{keyword_is, mark_is, ok_parts}
+use Rattle.model_tokens.specs.Tokens.{TokenForm, keyword, mark, name, number, further, stray, bad_byte}
+use Rattle.model_tokens.specs.Values.{cut_name}
+use Rattle.model_text.specs.Reading.{Reading, and_then, behind_keyword, required, keyword_at, name_at}
+use Rattle.model_text.proofs.FormulaTokens.{keyword_is, ok_parts}
 
 -- the value of a step that did not fail
 pub and_then-ok : {A B : Type 0} (r : Reading A) (next : A → List TokenForm → Reading B) (y : B × List TokenForm) → and_then r next ≡ Ok y → (x : A × List TokenForm) × (r ≡ Ok x) × (next x.0 x.1 ≡ Ok y)

@@ -2,10 +2,11 @@
 use Rattle.std.proofs.Common.{◌≡◌, ℕ, ◌-◌, ◌<◌, ◌≤◌, List, [], ◌∷◌, ◌++◌, length, Some, None, Ok, refl, sym, ap, subst, ◌∙◌, append_assoc, length-append, arith}
 use Rattle.std.proofs.lemmas.List.{append-nil}
 use Rattle.state_space.specs.declared.keyword.Keyword.TheVariants as keywords
-use Rattle.model_text.specs.declared.token.Sign.TheVariants.{Colon, Comma, Equal, OpenBrace, CloseBrace}
-use Rattle.model_text.specs.Tokens.{TokenForm, keyword, mark, name}
+use Rattle.model_tokens.specs.declared.token.Sign.TheVariants.{Colon, Comma, Equal, OpenBrace, CloseBrace}
+use Rattle.model_tokens.specs.Tokens.{TokenForm, keyword, mark, name}
 use Rattle.model_text.specs.RawTrees.{WrittenValue}
-use Rattle.model_text.specs.Leaves.{cut_name, value_of}
+use Rattle.model_tokens.specs.Values.{cut_name}
+use Rattle.model_text.specs.Leaves.{value_of}
 use Rattle.model_text.specs.FormulaReading.{value_at}
 use Rattle.model_text.specs.Statements.{Setting, StatementForm, trace}
 use Rattle.model_text.specs.Grammar.{SpellsSets, one_set, more_sets, SpellsState, an_empty_state, a_state, SpellsStates, no_state, one_more_state, SpellsStatement, a_trace}

@@ -2,8 +2,8 @@
 use Rattle.std.proofs.Common.{◌≡◌, ℕ, zero, suc, ◌-◌, ◌<◌, ◌≤◌, List, [], ◌∷◌, ◌++◌, length, Some, None, Ok, Err, refl, ap, arith}
 use Rattle.model_text.specs.declared.cursor.Fault.{Fault}
 use Rattle.model_text.specs.declared.cursor.Fault.TheVariants.{Syntax, Memory}
-use Rattle.model_text.specs.declared.token.Sign.{Sign}
-use Rattle.model_text.specs.Tokens.{TokenForm}
+use Rattle.model_tokens.specs.declared.token.Sign.{Sign}
+use Rattle.model_tokens.specs.Tokens.{TokenForm}
 use Rattle.model_text.specs.Statements.{StatementForm}
 use Rattle.model_text.specs.Reading.{Reading, and_then, behind_mark, Gives}
 use Rattle.model_text.specs.FormulaReading.{read_as}

@@ -9,11 +9,12 @@ use Rattle.state_space.specs.declared.keyword.Keyword.{Keyword}
 use Rattle.state_space.specs.declared.keyword.Keyword.TheVariants as keywords
 use Rattle.state_space.specs.Keywords.{keyword_of}
 use Rattle.state_space.specs.Ranges.{RangeForm}
-use Rattle.model_text.specs.declared.token.Sign.TheVariants.{Semicolon, OpenParenthesis, CloseParenthesis, CloseBrace}
+use Rattle.model_tokens.specs.declared.token.Sign.TheVariants.{Semicolon, OpenParenthesis, CloseParenthesis, CloseBrace}
 use Rattle.model_text.specs.declared.statement.Role.{Role}
-use Rattle.model_text.specs.Tokens.{TokenForm, keyword, mark, name, number}
+use Rattle.model_tokens.specs.Tokens.{TokenForm, keyword, mark, name, number}
 use Rattle.model_text.specs.RawTrees.{WrittenValue, a_word, a_number, a_truth, an_attribute as attribute_value, RawTree}
-use Rattle.model_text.specs.Leaves.{cut_name, magnitude, number_value, bound_value, value_of}
+use Rattle.model_tokens.specs.Values.{cut_name, magnitude, number_value, bound_value}
+use Rattle.model_text.specs.Leaves.{value_of}
 use Rattle.model_text.specs.Statements.{Setting, StatementForm}
 use Rattle.model_text.specs.FormulaGrammar.{Level, whole_level, iff_level, implies_level, or_level, and_level, tempo_level, prefix_level, SpellsValues, one_value, more_values, SpellsRight, a_value, an_attribute_value, SpellsFormula, a_truth, a_falsity, in_parentheses, a_flag, a_comparison, a_choice, a_flag_of, a_comparison_of, a_choice_of, a_universal, an_existential, a_primary, a_negation, a_next, an_eventually, an_always, an_eventually_within, an_always_within, a_prefix, an_until, an_unless, a_release, an_until_within, an_unless_within, a_release_within, a_tempo, a_conjunction, a_conjunct, a_disjunction, a_disjunct, an_implication, a_side, an_equivalence, a_whole, an_entailment}
 use Rattle.model_text.specs.Limits.{is_short}
@@ -21,7 +22,7 @@ use Rattle.model_text.specs.Grammar.{SpellsNames, one_name, more_names, SpellsPa
 use Rattle.model_text.specs.Writing.{number_token, value_token, right_tokens, tightness, enclosed, separated, names_tokens, values_tokens, within_tokens, whole_tokens, formula_tokens, range_tokens, part_tokens, pattern_tokens, exact_tokens, role_token, set_tokens, state_tokens, statement_tokens}
 use Rattle.model_text.specs.Lines.{ended_tokens}
 use Rattle.model_text.specs.Writable.{IsWritable, AreWritable}
-use Rattle.model_text.proofs.CutNames.{cut_is_name, cut_further}
+use Rattle.model_tokens.proofs.CutNames.{cut_is_name, cut_further}
 use Rattle.model_text.proofs.WrittenLeaves.{magnitude_bounded, bound_bounded}
 use Rattle.model_text.proofs.WrittenFormulas.{more_is, no_attribute}
 use Rattle.model_text.proofs.WrittenStatements.{more_names_is, part_is, more_sets_is}

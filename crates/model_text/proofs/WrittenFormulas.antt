@@ -2,11 +2,12 @@
 use Rattle.std.proofs.Common.{◌≡◌, ℕ, Bool, true, false, List, [], ◌∷◌, ◌++◌, refl, sym, subst, append_assoc, Some}
 use Rattle.std.specs.Prelude.{nat_le, decimal, if◌then◌else◌}
 use Rattle.state_space.specs.declared.keyword.Keyword.TheVariants as keywords
-use Rattle.model_text.specs.declared.token.Sign.TheVariants.{Comma, OpenParenthesis, CloseParenthesis, OpenBrace, CloseBrace}
-use Rattle.model_text.specs.declared.token.Further.TheVariants as furthers
-use Rattle.model_text.specs.Tokens.{TokenForm, keyword, mark, name, number}
+use Rattle.model_tokens.specs.declared.token.Sign.TheVariants.{Comma, OpenParenthesis, CloseParenthesis, OpenBrace, CloseBrace}
+use Rattle.model_tokens.specs.declared.token.Further.TheVariants as furthers
+use Rattle.model_tokens.specs.Tokens.{TokenForm, keyword, mark, name, number}
 use Rattle.model_text.specs.RawTrees.{WrittenValue, a_word, a_number, a_truth, an_attribute, RawTree, bare, compares, among, bare_of, compares_of, among_of, for_all, for_some, eventually_within, always_within, until_within, unless_within, release_within}
-use Rattle.model_text.specs.Leaves.{cut_name, bound_value, value_of}
+use Rattle.model_tokens.specs.Values.{cut_name, bound_value}
+use Rattle.model_text.specs.Leaves.{value_of}
 use Rattle.model_text.specs.FormulaGrammar.{Level, whole_level, iff_level, implies_level, or_level, and_level, tempo_level, prefix_level, primary_level, argument, SpellsValues, one_value, more_values, SpellsRight, a_value, an_attribute_value, SpellsFormula, a_truth, a_falsity, in_parentheses, a_flag, a_comparison, a_choice, a_flag_of, a_comparison_of, a_choice_of, a_universal, an_existential, a_primary, a_negation, a_next, an_eventually, an_always, an_eventually_within, an_always_within, a_prefix, an_until, an_unless, a_release, an_until_within, an_unless_within, a_release_within, a_tempo, a_conjunction, a_conjunct, a_disjunction, a_disjunct, an_implication, a_side, an_equivalence, a_whole, an_entailment}
 use Rattle.model_text.specs.Writing.{tightness, enclosed, sign_of, value_token, right_tokens, values_tokens, quantified_tokens, within_tokens, formula_tokens}
 use Rattle.model_text.proofs.WrittenLeaves.{cut_again, bound_again, sign_again, value_again}

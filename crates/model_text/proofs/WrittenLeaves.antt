@@ -1,13 +1,14 @@
 -- Names, numbers, bounds and values are written so that they count as the same.
-use Rattle.std.proofs.Common.{◌≡◌, ℕ, zero, suc, ◌+◌, ◌-◌, ◌*◌, ◌<◌, ◌≤◌, Bool, true, false, List, [], ◌∷◌, ◌++◌, length, take, Some, refl, sym, ap, ◌∙◌, arith}
-use Rattle.std.specs.Prelude.{◌/◌, ◌%◌, ◌^◌, ◌==◌, ◌&&◌, not, min, pos, neg_ℤ, decimal, if◌then◌else◌}
+use Rattle.std.proofs.Common.{◌≡◌, ℕ, zero, suc, ◌<◌, ◌≤◌, Bool, true, false, List, length, take, Some, refl, sym, ap, ◌∙◌, arith}
+use Rattle.std.specs.Prelude.{◌^◌, ◌==◌, ◌&&◌, not, min, pos, neg_ℤ, decimal, if◌then◌else◌}
 use Rattle.std.proofs.lemmas.List.{take_all, length-take}
 use Rattle.source_sink.proofs.DigitValues.{decimal_value}
 use Rattle.state_space.specs.declared.keyword.Keyword.TheVariants as keywords
 use Rattle.temporal_logic.specs.Ltl.{Relation, is_same, is_other, is_below, is_at_most, is_above, is_at_least}
-use Rattle.model_text.specs.Tokens.{TokenForm, keyword, name, number}
+use Rattle.model_tokens.specs.Tokens.{TokenForm, keyword, name, number}
 use Rattle.model_text.specs.RawTrees.{WrittenValue, a_word, a_number, a_truth, an_attribute}
-use Rattle.model_text.specs.Leaves.{cut_name, magnitude, number_value, bound_value, relation_of, value_of}
+use Rattle.model_tokens.specs.Values.{cut_name, magnitude, number_value, bound_value}
+use Rattle.model_text.specs.Leaves.{relation_of, value_of}
 use Rattle.model_text.specs.Writing.{number_token, value_token, sign_of}
 
 -- a name that was cut is cut no further

@@ -4,10 +4,10 @@ use Rattle.std.specs.Prelude.{ℤ, map, flat_map, decimal}
 use Rattle.state_space.specs.declared.keyword.Keyword.{Keyword}
 use Rattle.state_space.specs.declared.keyword.Keyword.TheVariants as keywords
 use Rattle.state_space.specs.Ranges.{RangeForm, span}
-use Rattle.model_text.specs.declared.token.Sign.TheVariants.{Semicolon, Colon, Comma, Equal, Dots}
+use Rattle.model_tokens.specs.declared.token.Sign.TheVariants.{Semicolon, Colon, Comma, Equal, Dots}
 use Rattle.model_text.specs.declared.statement.Role.{Role}
-use Rattle.model_text.specs.Tokens.{TokenForm, keyword, mark, name, number}
-use Rattle.model_text.specs.Leaves.{cut_name, number_value}
+use Rattle.model_tokens.specs.Tokens.{TokenForm, keyword, mark, name, number}
+use Rattle.model_tokens.specs.Values.{cut_name, number_value}
 use Rattle.model_text.specs.FormulaGrammar.{whole_level, iff_level}
 use Rattle.model_text.specs.Statements.{Setting, StatementForm, variable, entity_type, attribute, domain, rule, goal, obstacle, refinement, obstruction, conflict, agent, assignment, expectation, operation, requirement, operationalisation, trace}
 use Rattle.model_text.specs.Grammar.{SpellsNames, one_name, more_names, SpellsPart, no_part, a_part, SpellsPattern, no_pattern, a_pattern, SpellsExact, not_exact, is_exact, SpellsRole, a_pre, a_trig, a_post, SpellsRange, a_boolean, an_enumeration, a_span, SpellsSets, one_set, more_sets, SpellsState, an_empty_state, a_state, SpellsStates, no_state, one_more_state, SpellsStatement, a_variable, an_entity_type, an_attribute, a_domain, a_rule, a_goal, an_obstacle, a_refinement, an_obstruction, a_conflict, an_agent, an_assignment, an_expectation, an_operation, a_requirement, an_operationalisation, a_trace, SpellsStatements, no_statement, one_more, SpellsText, a_text, a_second_text}

@@ -5,10 +5,10 @@ use Rattle.std.specs.Prelude.{◌||◌, not, nat_lt, count_by, flat_map, map, if
 use Rattle.std.specs.List.{list_all, list_any}
 use Rattle.model_text.specs.declared.limits.LimitKind.{LimitKind}
 use Rattle.model_text.specs.declared.limits.LimitKind.TheVariants.{Statements, Links, Parts, NameLength, Number, Bound, Depth}
-use Rattle.model_text.specs.declared.token.Further.TheVariants as furthers
-use Rattle.model_text.specs.Tokens.{TokenForm, keyword, mark, name, number, further, stray, bad_byte, Placed}
-use Rattle.model_text.specs.Lexing.{tokens_of, forms_of}
-use Rattle.model_text.specs.Versions.{is_second, version_forms, text_forms}
+use Rattle.model_tokens.specs.declared.token.Further.TheVariants as furthers
+use Rattle.model_tokens.specs.Tokens.{TokenForm, keyword, mark, name, number, further, stray, bad_byte, Placed}
+use Rattle.model_tokens.specs.Lexing.{tokens_of, forms_of}
+use Rattle.model_tokens.specs.Versions.{is_second, version_forms, text_forms}
 use Rattle.model_text.specs.Statements.{StatementForm}
 use Rattle.model_text.specs.Grammar.{SpellsText, Spells}
 use Rattle.model_text.specs.Limits.{most_operators, is_short, is_small, is_link, has_many_parts, has_wide_bound, is_deep, has_formula, passed_limit}

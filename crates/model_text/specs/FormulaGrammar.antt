@@ -13,13 +13,14 @@
 -- A `(` directly behind a name, and the words `all` and `some`, are tokens of their own, which only texts of version 2 have.
 use Rattle.std.specs.Prelude.{◌≡◌, ℕ, Bool, List, [], ◌∷◌, ◌++◌, Some}
 use Rattle.state_space.specs.declared.keyword.Keyword.TheVariants as keywords
-use Rattle.model_text.specs.declared.token.Sign.{Sign}
-use Rattle.model_text.specs.declared.token.Sign.TheVariants.{Colon, Comma, OpenParenthesis, CloseParenthesis, OpenBrace, CloseBrace}
-use Rattle.model_text.specs.declared.token.Further.TheVariants as furthers
+use Rattle.model_tokens.specs.declared.token.Sign.{Sign}
+use Rattle.model_tokens.specs.declared.token.Sign.TheVariants.{Colon, Comma, OpenParenthesis, CloseParenthesis, OpenBrace, CloseBrace}
+use Rattle.model_tokens.specs.declared.token.Further.TheVariants as furthers
 use Rattle.temporal_logic.specs.Ltl.{Relation}
-use Rattle.model_text.specs.Tokens.{TokenForm, keyword, mark, name, number, further}
+use Rattle.model_tokens.specs.Tokens.{TokenForm, keyword, mark, name, number, further}
 use Rattle.model_text.specs.RawTrees.{WrittenValue, an_attribute, RawTree, truth, falsity, bare, compares, among, bare_of, compares_of, among_of, neg, next, eventually, always, eventually_within, always_within, conj, disj, implies, iff, entails, until, unless, release, until_within, unless_within, release_within, for_all, for_some}
-use Rattle.model_text.specs.Leaves.{cut_name, bound_value, relation_of, value_of}
+use Rattle.model_tokens.specs.Values.{cut_name, bound_value}
+use Rattle.model_text.specs.Leaves.{relation_of, value_of}
 
 -- the rules of the grammar above, from the one that binds least tightly on
 pub data Level : Type 0 where

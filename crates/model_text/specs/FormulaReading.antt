@@ -1,18 +1,19 @@
 -- Reading a formula from the front of a list of tokens, from left to right: at a fault, the tokens from the one that cannot stand there.
 use Rattle.std.specs.Prelude.{ℕ, zero, suc, Bool, ◌&&◌, is_none, List, [], ◌∷◌, ◌++◌, length, Option, Some, None, Ok, Err}
 use Rattle.state_space.specs.declared.keyword.Keyword.TheVariants as keywords
-use Rattle.model_text.specs.declared.token.Sign.TheVariants.{Colon, Comma, OpenParenthesis, CloseParenthesis, OpenBrace, CloseBrace}
+use Rattle.model_tokens.specs.declared.token.Sign.TheVariants.{Colon, Comma, OpenParenthesis, CloseParenthesis, OpenBrace, CloseBrace}
 use Rattle.model_text.specs.declared.formula_reader.Opening.{Opening}
 use Rattle.model_text.specs.declared.formula_reader.Opening.TheVariants as openings
 use Rattle.model_text.specs.declared.formula_reader.Connective.{Connective}
 use Rattle.model_text.specs.declared.formula_reader.Connective.TheVariants as connectives
 use Rattle.model_text.specs.declared.formula_reader.Joining.{Joining}
 use Rattle.model_text.specs.declared.formula_reader.Joining.TheVariants as joinings
-use Rattle.model_text.specs.declared.token.Further.TheVariants as furthers
+use Rattle.model_tokens.specs.declared.token.Further.TheVariants as furthers
 use Rattle.temporal_logic.specs.Ltl.{Relation}
-use Rattle.model_text.specs.Tokens.{TokenForm, mark, number}
+use Rattle.model_tokens.specs.Tokens.{TokenForm, mark, number}
 use Rattle.model_text.specs.RawTrees.{WrittenValue, a_word, an_attribute, RawTree, truth, falsity, bare, compares, among, bare_of, compares_of, among_of, neg, next, eventually, always, eventually_within, always_within, conj, disj, implies, iff, entails, until, unless, release, until_within, unless_within, release_within, for_all, for_some}
-use Rattle.model_text.specs.Leaves.{bound_value, relation_of, value_of}
+use Rattle.model_tokens.specs.Values.{bound_value}
+use Rattle.model_text.specs.Leaves.{relation_of, value_of}
 use Rattle.model_text.specs.Reading.{Reading, and_then, behind_keyword, behind_mark, behind_further, mark_at, further_at, name_at}
 
 -- a reader of one level of the grammar

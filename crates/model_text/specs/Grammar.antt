@@ -26,15 +26,16 @@ use Rattle.std.specs.Prelude.{◌≡◌, ℕ, pos, Bool, true, false, List, [], 
 use Rattle.state_space.specs.declared.keyword.Keyword.{Keyword}
 use Rattle.state_space.specs.declared.keyword.Keyword.TheVariants as keywords
 use Rattle.state_space.specs.Ranges.{RangeForm, truth_values, named, span}
-use Rattle.model_text.specs.declared.token.Sign.TheVariants.{Semicolon, Colon, Comma, Equal, Dots, OpenBrace, CloseBrace}
-use Rattle.model_text.specs.declared.token.Further.TheVariants as furthers
+use Rattle.model_tokens.specs.declared.token.Sign.TheVariants.{Semicolon, Colon, Comma, Equal, Dots, OpenBrace, CloseBrace}
+use Rattle.model_tokens.specs.declared.token.Further.TheVariants as furthers
 use Rattle.model_text.specs.declared.statement.Role.{Role}
 use Rattle.model_text.specs.declared.statement.Role.TheVariants as roles
-use Rattle.model_text.specs.Tokens.{TokenForm, keyword, mark, name, number, further}
-use Rattle.model_text.specs.Versions.{text_forms}
+use Rattle.model_tokens.specs.Tokens.{TokenForm, keyword, mark, name, number, further}
+use Rattle.model_tokens.specs.Versions.{text_forms}
 use Rattle.model_text.specs.RawTrees.{WrittenValue, RawTree}
 use Rattle.model_text.specs.FormulaGrammar.{whole_level, iff_level, SpellsFormula}
-use Rattle.model_text.specs.Leaves.{cut_name, number_value, value_of}
+use Rattle.model_tokens.specs.Values.{cut_name, number_value}
+use Rattle.model_text.specs.Leaves.{value_of}
 use Rattle.model_text.specs.Statements.{Setting, StatementForm, version, variable, entity_type, attribute, domain, rule, goal, obstacle, refinement, obstruction, conflict, agent, assignment, expectation, operation, requirement, operationalisation, trace}
 
 -- name { "," name }

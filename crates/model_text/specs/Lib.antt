@@ -1,9 +1,5 @@
-pub mod Tokens
-pub mod Lexing
-pub mod LexerView
 pub mod RawTrees
 pub mod Leaves
-pub mod Versions
 pub mod FormulaGrammar
 pub mod RawView
 pub mod Reading

@@ -2,12 +2,12 @@
 use Rattle.std.specs.Prelude.{ℕ, ◌+◌, max, Bool, true, false, ◌||◌, not, List, [], ◌∷◌, length, count_by, nat_le, nat_lt, Option, Some, None, if◌then◌else◌}
 use Rattle.std.specs.List.{list_all, list_any}
 use Rattle.state_space.specs.declared.keyword.Keyword.TheVariants as keywords
-use Rattle.model_text.specs.declared.token.Sign.TheVariants.{Semicolon, OpenParenthesis}
-use Rattle.model_text.specs.declared.token.Further.TheVariants as furthers
+use Rattle.model_tokens.specs.declared.token.Sign.TheVariants.{Semicolon, OpenParenthesis}
+use Rattle.model_tokens.specs.declared.token.Further.TheVariants as furthers
 use Rattle.model_text.specs.declared.limits.LimitKind.{LimitKind}
 use Rattle.model_text.specs.declared.limits.LimitKind.TheVariants.{Statements, Links, Parts, NameLength, Number, Bound, Depth}
-use Rattle.model_text.specs.Tokens.{TokenForm, keyword, mark, name, number, further}
-use Rattle.model_text.specs.Leaves.{magnitude}
+use Rattle.model_tokens.specs.Tokens.{TokenForm, keyword, mark, name, number, further}
+use Rattle.model_tokens.specs.Values.{magnitude}
 use Rattle.model_text.specs.RawTrees.{RawTree, neg, next, eventually, always, eventually_within, always_within, conj, disj, implies, iff, entails, until, unless, release, until_within, unless_within, release_within, for_all, for_some}
 use Rattle.model_text.specs.Statements.{StatementForm, domain, rule, goal, obstacle, refinement, obstruction, conflict, assignment, operation, requirement, operationalisation}
 

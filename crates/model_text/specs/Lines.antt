@@ -2,8 +2,8 @@
 use Rattle.std.specs.Prelude.{ℕ, Bool, ◌||◌, List, [], ◌∷◌, ◌++◌, codes, flat_map, Option, Some, None, if◌then◌else◌}
 use Rattle.model_text.specs.declared.level.Level as code
 use Rattle.model_text.specs.declared.level.Level.TheVariants as levels
-use Rattle.model_text.specs.declared.token.Sign.TheVariants.{Semicolon, Comma}
-use Rattle.model_text.specs.Tokens.{TokenForm, mark}
+use Rattle.model_tokens.specs.declared.token.Sign.TheVariants.{Semicolon, Comma}
+use Rattle.model_tokens.specs.Tokens.{TokenForm, mark}
 use Rattle.model_text.specs.RawTrees.{RawTree, truth, falsity, bare, compares, among, bare_of, compares_of, among_of, neg, next, eventually, always, eventually_within, always_within, conj, disj, implies, iff, entails, until, unless, release, until_within, unless_within, release_within, for_all, for_some}
 use Rattle.model_text.specs.FormulaGrammar.{Level, whole_level, iff_level, implies_level, or_level, and_level, tempo_level, prefix_level, primary_level}
 use Rattle.model_text.specs.Layout.{gap, token_bytes, holds_on}

@@ -1,8 +1,8 @@
 -- The place of a syntax fault: that of the first token with which the tokens begin no text that is spelled. Tokens are those of the bytes,
 -- before the version makes its own of them: what they begin may be of either version as long as they do not name one.
 use Rattle.std.specs.Prelude.{◌≡◌, ℕ, Bool, true, false, List, [], ◌∷◌, ◌++◌, length, map}
-use Rattle.model_text.specs.Tokens.{TokenForm, stray, bad_byte, Placed}
-use Rattle.model_text.specs.Lexing.{tokens_of, forms_of}
+use Rattle.model_tokens.specs.Tokens.{TokenForm, stray, bad_byte, Placed}
+use Rattle.model_tokens.specs.Lexing.{tokens_of, forms_of}
 use Rattle.model_text.specs.Statements.{StatementForm}
 use Rattle.model_text.specs.Grammar.{Spells}
 

@@ -4,9 +4,9 @@ use Rattle.model_text.specs.declared.limits.LimitKind.{LimitKind}
 use Rattle.model_text.specs.declared.limits.LimitKind.TheVariants.{Operators}
 use Rattle.model_text.specs.declared.text.TextRefusal.{TextRefusal}
 use Rattle.model_text.specs.declared.text.TextRefusal.TheVariants.{BadByte, Limit, Syntax}
-use Rattle.model_text.specs.Tokens.{TokenForm, bad_byte, Placed}
-use Rattle.model_text.specs.Lexing.{tokens_of}
-use Rattle.model_text.specs.Versions.{text_forms}
+use Rattle.model_tokens.specs.Tokens.{TokenForm, bad_byte, Placed}
+use Rattle.model_tokens.specs.Lexing.{tokens_of}
+use Rattle.model_tokens.specs.Versions.{text_forms}
 use Rattle.model_text.specs.Statements.{StatementForm}
 use Rattle.model_text.specs.Grammar.{Spells}
 use Rattle.model_text.specs.Places.{IsFaultPlace}

@@ -1,9 +1,9 @@
 -- Readers made of readers: one part behind another, one way or another, and lists.
 use Rattle.std.specs.Prelude.{ℕ, zero, suc, List, [], ◌∷◌, ◌++◌, length, Ok, Err}
 use Rattle.state_space.specs.declared.keyword.Keyword.{Keyword}
-use Rattle.model_text.specs.declared.token.Sign.{Sign}
-use Rattle.model_text.specs.declared.token.Sign.TheVariants.{Comma}
-use Rattle.model_text.specs.Tokens.{TokenForm}
+use Rattle.model_tokens.specs.declared.token.Sign.{Sign}
+use Rattle.model_tokens.specs.declared.token.Sign.TheVariants.{Comma}
+use Rattle.model_tokens.specs.Tokens.{TokenForm}
 use Rattle.model_text.specs.Reading.{Reading, and_then, behind_keyword, behind_mark}
 use Rattle.model_text.specs.FormulaReading.{if_behind, read_as}
 

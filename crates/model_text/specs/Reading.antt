@@ -2,13 +2,13 @@
 use Rattle.std.specs.Prelude.{◌≡◌, ℕ, List, ◌∷◌, map, Option, Some, None, Result, Ok, Err, ⊤, ◌==◌, if◌then◌else◌}
 use Rattle.state_space.specs.declared.keyword.Keyword.{Keyword}
 use Rattle.state_space.specs.Keywords.{number as keyword_number}
-use Rattle.model_text.specs.declared.token.Sign.{Sign}
-use Rattle.model_text.specs.declared.token.Further.{Further}
+use Rattle.model_tokens.specs.declared.token.Sign.{Sign}
+use Rattle.model_tokens.specs.declared.token.Further.{Further}
 use Rattle.model_text.specs.declared.cursor.Fault.{Fault}
 use Rattle.model_text.specs.declared.cursor.Fault.TheVariants.{Syntax, Memory}
 use Rattle.model_text.specs.declared.cursor.Cursor.{Cursor}
-use Rattle.model_text.specs.Tokens.{TokenForm, keyword, mark, name, further, number_of, further_number, form_of}
-use Rattle.model_text.specs.Leaves.{cut_name}
+use Rattle.model_tokens.specs.Tokens.{TokenForm, keyword, mark, name, further, number_of, further_number, form_of}
+use Rattle.model_tokens.specs.Values.{cut_name}
 
 -- what is read and the tokens behind it, or the tokens that are left at the fault
 abbrev pub Reading : Type 0 → Type 0

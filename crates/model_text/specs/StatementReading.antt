@@ -3,17 +3,17 @@ use Rattle.std.specs.Prelude.{ℕ, zero, suc, ℤ, Bool, true, false, List, [], 
 use Rattle.state_space.specs.declared.keyword.Keyword.{Keyword}
 use Rattle.state_space.specs.declared.keyword.Keyword.TheVariants as keywords
 use Rattle.state_space.specs.Ranges.{RangeForm, truth_values, named, span}
-use Rattle.model_text.specs.declared.token.Sign.TheVariants.{Semicolon, Colon, Equal, Dots, OpenBrace, CloseBrace}
-use Rattle.model_text.specs.declared.token.Further.TheVariants as furthers
+use Rattle.model_tokens.specs.declared.token.Sign.TheVariants.{Semicolon, Colon, Equal, Dots, OpenBrace, CloseBrace}
+use Rattle.model_tokens.specs.declared.token.Further.TheVariants as furthers
 use Rattle.model_text.specs.declared.statement.Role.{Role}
 use Rattle.model_text.specs.declared.statement.Role.TheVariants as roles
-use Rattle.model_text.specs.Tokens.{TokenForm, keyword, number, further}
-use Rattle.model_text.specs.Versions.{version_named}
+use Rattle.model_tokens.specs.Tokens.{TokenForm, keyword, number, further}
+use Rattle.model_tokens.specs.Versions.{version_named}
 use Rattle.model_text.specs.declared.raw_formula.RawValue.{RawValue}
 use Rattle.model_text.specs.RawTrees.{RawTree}
 use Rattle.model_text.specs.RawView.{written}
 use Rattle.model_text.specs.FormulaReading.{read_as, iff_at, whole_at, value_at}
-use Rattle.model_text.specs.Leaves.{number_value}
+use Rattle.model_tokens.specs.Values.{number_value}
 use Rattle.model_text.specs.Reading.{and_then, keyword_at, mark_at, name_at}
 use Rattle.model_text.specs.Readers.{Reader, after, counted, if_word, if_sign, giving, nowhere, more_at, listed_at}
 use Rattle.model_text.specs.Statements.{Setting, StatementForm, version, variable, entity_type, attribute, domain, rule, goal, obstacle, refinement, obstruction, conflict, agent, assignment, expectation, operation, requirement, operationalisation, trace}

@@ -4,10 +4,10 @@ use Rattle.std.specs.List.{list_all}
 use Rattle.std.specs.Char.{is_ascii_digit}
 use Rattle.state_space.specs.Keywords.{keyword_of}
 use Rattle.state_space.specs.Names.{has_name_form}
-use Rattle.model_text.specs.declared.token.Sign.TheVariants.{OpenParenthesis}
-use Rattle.model_text.specs.declared.token.Further.TheVariants as furthers
-use Rattle.model_text.specs.Tokens.{TokenForm, keyword, mark, name, number, further, stray, bad_byte}
-use Rattle.model_text.specs.Versions.{further_word}
+use Rattle.model_tokens.specs.declared.token.Sign.TheVariants.{OpenParenthesis}
+use Rattle.model_tokens.specs.declared.token.Further.TheVariants as furthers
+use Rattle.model_tokens.specs.Tokens.{TokenForm, keyword, mark, name, number, further, stray, bad_byte}
+use Rattle.model_tokens.specs.Versions.{further_word}
 
 -- a keyword, a sign, a name that is no keyword, or a number of a digit or more; in version 2 also the tokens that only it has, which no name is
 abbrev pub IsWritable : (second : Bool) → TokenForm → Type 0

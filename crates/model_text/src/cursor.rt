@@ -4,17 +4,17 @@
 ghost use Rattle.std.specs.Prelude.{◌≡◌, [], ◌∷◌, ◌+◌, ◌<◌, ◌≤◌, Some, None, ⊤, length, option_map, OnOk, MatchOption};
 ghost use Rattle.std.specs.Bool.{MatchBool};
 ghost use Rattle.temporal_logic.specs.Trees.{relation_of};
-ghost use Rattle.model_text.specs.Tokens.{keyword as keyword_form, mark as mark_form, number as number_form, further as further_form, form_of};
+ghost use Rattle.model_tokens.specs.Tokens.{keyword as keyword_form, mark as mark_form, number as number_form, further as further_form, form_of};
 ghost use Rattle.model_text.specs.Leaves.{relation_of as relation_of_mark};
 ghost use Rattle.model_text.specs.RawView.{written};
 ghost use Rattle.model_text.specs.FormulaReading.{number_behind, bound_at, comparison_at, value_at, argument_at, right_at};
 ghost use Rattle.model_text.specs.Reading.{Gives, left, behind_keyword, behind_mark, behind_further, keyword_at, mark_at, further_at, name_at};
 ghost use Rattle.model_text.specs.declared.cursor.Fault.TheVariants.{Memory as MemoryFault};
 
-use crate::numeral::Numeral;
 use crate::raw_formula::RawValue;
-use crate::token::{Further, Sign, Token, TokenKind};
-use state_space::{Keyword, Name, NameRefusal};
+use model_tokens::{Further, Numeral, Sign, Token, TokenKind};
+use source_sink::Memory;
+use state_space::{Keyword, Name};
 use std::alloc::{AllocError, AllocFailed, Global};
 use temporal_logic::Cmp;
 
@@ -39,6 +39,14 @@ impl<T: Drop> From<AllocFailed<T>> for Fault {
     ghost from_gives = { λ _ e. e ≡ MemoryFault };
 
     fn from(_: AllocFailed<T>) -> Fault {
+        Fault::Memory
+    }
+}
+
+impl From<Memory> for Fault {
+    ghost from_gives = { λ _ e. e ≡ MemoryFault };
+
+    fn from(_: Memory) -> Fault {
         Fault::Memory
     }
 }
@@ -164,7 +172,7 @@ impl<'a, 't> Cursor<'a, 't> {
     {
         let rest = self.rest;
         if let Some(TokenKind::Name(word)) = self.next() {
-            return word.name(alloc);
+            return Ok(word.name(alloc)?);
         }
         self.rest = rest;
         Err(Fault::Syntax)

@@ -13,7 +13,7 @@ ghost use Rattle.model_text.specs.declared.cursor.Fault.TheVariants.{Memory as M
 
 use crate::cursor::{Cursor, Fault};
 use crate::raw_formula::{RawFormula, RawValue};
-use crate::token::{Further, Sign};
+use model_tokens::{Further, Sign};
 use state_space::{Keyword, Name};
 use std::alloc::Global;
 use temporal_logic::Cmp;

@@ -2,9 +2,9 @@
 
 ghost use Rattle.std.specs.Prelude.{◌≡◌, ◌∷◌, ◌++◌, [], map, OnOk};
 ghost use Rattle.temporal_logic.specs.Trees.{relation_of};
-ghost use Rattle.model_text.specs.Tokens.{keyword, mark, name as name_form, further};
-ghost use Rattle.model_text.specs.declared.token.Sign.TheVariants.{Colon};
-ghost use Rattle.model_text.specs.declared.token.Further.TheVariants.{OpenArgument};
+ghost use Rattle.model_tokens.specs.Tokens.{keyword, mark, name as name_form, further};
+ghost use Rattle.model_tokens.specs.declared.token.Sign.TheVariants.{Colon};
+ghost use Rattle.model_tokens.specs.declared.token.Further.TheVariants.{OpenArgument};
 ghost use Rattle.model_text.specs.RawTrees.{compares, among, compares_of, among_of};
 ghost use Rattle.model_text.specs.RawView.{written, raw_tree};
 ghost use Rattle.model_text.specs.FormulaGrammar.{prefix_level, primary_level, whole_level};
@@ -14,7 +14,7 @@ ghost use Rattle.model_text.specs.Lines.{with_token, with_tokens, behind_commas,
 use crate::level::Level;
 use crate::line::Line;
 use crate::raw_formula::{RawFormula, RawValue};
-use crate::token::{Further, Sign};
+use model_tokens::{Further, Sign};
 use source_sink::Memory;
 use state_space::{Keyword, Name};
 use temporal_logic::Cmp;

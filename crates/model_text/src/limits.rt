@@ -1,19 +1,18 @@
 //! The limits of a text, tested over its tokens and its statements. The readers do not know of
 //! them: a value that is too large counts as one just over its limit. So the numbers of three
-//! limits stand elsewhere too, for names in token.rt and state_space, for magnitudes and bounds in
-//! numeral.rt.
+//! limits stand elsewhere too: for names in the tokens and in state_space, for magnitudes and
+//! bounds in the numerals of the tokens.
 
 ghost use Rattle.std.specs.Prelude.{◌≡◌, count_by, map, nat_lt};
 ghost use Rattle.std.specs.List.{list_all, list_any};
-ghost use Rattle.model_text.specs.Tokens.{keyword, form_of};
+ghost use Rattle.model_tokens.specs.Tokens.{keyword, form_of};
 ghost use Rattle.model_text.specs.RawView.{raw_tree};
 ghost use Rattle.model_text.specs.Statements.{statement_of, statements_of, all_statements};
 ghost use Rattle.model_text.specs.Limits.{is_operator as is_operator_form, is_semicolon as is_semicolon_form, most_operators as most_operators_of, is_short as is_short_form, is_small as is_small_form, is_link as is_link_form, parts_of, has_many_parts as has_many_parts_of, has_wide_bound as has_wide_bound_of, depth_of, is_deep as is_deep_of, has_formula, passed_limit as passed_limit_of};
 
-use crate::numeral::Numeral;
 use crate::raw_formula::RawFormula;
 use crate::statement::{RawModel, Statement, StatementKind};
-use crate::token::{Further, Sign, Token, TokenKind};
+use model_tokens::{Further, Numeral, Sign, Token, TokenKind};
 use state_space::Keyword;
 
 /// Operators and open parentheses between two semicolons.

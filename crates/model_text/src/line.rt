@@ -3,13 +3,13 @@
 //! (specs/Layout.antt).
 
 ghost use Rattle.std.specs.Prelude.{◌≡◌, true, [], pos, OnOk};
-ghost use Rattle.model_text.specs.Tokens.{keyword, mark, name as name_form, further};
+ghost use Rattle.model_tokens.specs.Tokens.{keyword, mark, name as name_form, further};
 ghost use Rattle.model_text.specs.Writing.{number_token};
 ghost use Rattle.model_text.specs.Lines.{LineForm, with_bytes, with_token};
 
 use crate::sign::{closes_up, further_bytes, further_holds_on, holds_on, sign_bytes};
-use crate::token::{Further, Sign};
 use itoa::Buffer;
+use model_tokens::{Further, Sign};
 use source_sink::Memory;
 use state_space::{Keyword, Name};
 use std::alloc::Global;

@@ -9,7 +9,7 @@ ghost use Rattle.model_text.specs.StatementReading.{names_at, declared_name_at, 
 use crate::cursor::{Cursor, Fault};
 use crate::formula_reader::{formula, iff_formula};
 use crate::raw_formula::RawFormula;
-use crate::token::Sign;
+use model_tokens::Sign;
 use state_space::{Keyword, Name};
 use std::alloc::Global;
 

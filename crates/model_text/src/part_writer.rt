@@ -3,15 +3,15 @@
 
 ghost use Rattle.std.specs.Prelude.{◌≡◌, ◌∷◌, ◌++◌, [], OnOk};
 ghost use Rattle.state_space.specs.Ranges.{form_of};
-ghost use Rattle.model_text.specs.Tokens.{keyword, mark, name as name_form};
+ghost use Rattle.model_tokens.specs.Tokens.{keyword, mark, name as name_form};
 ghost use Rattle.model_text.specs.Writing.{names_tokens, range_tokens, part_tokens, pattern_tokens, exact_tokens, role_token};
 ghost use Rattle.model_text.specs.Lines.{with_token, with_tokens, behind_commas};
-ghost use Rattle.model_text.specs.declared.token.Sign.TheVariants.{Colon};
+ghost use Rattle.model_tokens.specs.declared.token.Sign.TheVariants.{Colon};
 ghost use Rattle.state_space.specs.declared.keyword.Keyword.TheVariants as keywords;
 
 use crate::line::Line;
 use crate::statement::Role;
-use crate::token::Sign;
+use model_tokens::Sign;
 use source_sink::Memory;
 use state_space::{Keyword, Name, Range};
 

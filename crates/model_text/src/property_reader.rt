@@ -11,7 +11,7 @@ ghost use Rattle.model_text.specs.StatementReading.{number_at, span_at, enumerat
 use crate::cursor::{Cursor, Fault};
 use crate::part_reader::{body, declared_name, names, pair, side};
 use crate::statement::StatementKind;
-use crate::token::Sign;
+use model_tokens::Sign;
 use state_space::{Keyword, Name, Range};
 use std::alloc::Global;
 

@@ -15,8 +15,8 @@ use crate::cursor::{Cursor, Fault};
 use crate::link_reader::{conflict, obstruction, refinement};
 use crate::property_reader::{attribute, domain, entity_type, goal, obstacle, rule, variable};
 use crate::statement::{RawModel, Statement, StatementKind};
-use crate::token::{Further, Sign, TokenKind};
 use crate::trace_reader::trace;
+use model_tokens::{Further, Sign, TokenKind};
 use state_space::Keyword;
 use std::alloc::Global;
 

@@ -2,10 +2,11 @@
 //! functions of the code. The lexer tells signs apart by itself.
 
 ghost use Rattle.std.specs.Prelude.{◌≡◌};
-ghost use Rattle.model_text.specs.Tokens.{mark, further};
-ghost use Rattle.model_text.specs.Layout.{sign_bytes, further_bytes, closes_up, holds_on};
+ghost use Rattle.model_tokens.specs.Tokens.{mark, further};
+ghost use Rattle.model_tokens.specs.Signs.{sign_bytes, further_bytes};
+ghost use Rattle.model_text.specs.Layout.{closes_up, holds_on};
 
-use crate::token::{Further, Sign};
+use model_tokens::{Further, Sign};
 
 /// The bytes of a sign.
 pub(crate) fn sign_bytes(sign: Sign) -> &'static [u8]

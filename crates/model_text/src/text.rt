@@ -3,7 +3,7 @@
 
 ghost use Rattle.std.specs.Prelude.{◌≡◌, true, ◌⊎◌, ◌+◌, ◌*◌, ◌-◌, ◌≤◌, ℕ, List, length, map, vec_len, slice_index_or, IfOk, IfErr};
 ghost use Rattle.std.specs.List.{list_all};
-ghost use Rattle.model_text.specs.Tokens.{TokenForm, form_of, all_placed};
+ghost use Rattle.model_tokens.specs.Tokens.{TokenForm, form_of, all_placed};
 ghost use Rattle.model_text.specs.Statements.{StatementForm, statements_of};
 ghost use Rattle.model_text.specs.Grammar.{Spells};
 ghost use Rattle.model_text.specs.Places.{BeginsText, has_token, IsFaultPlace};
@@ -11,32 +11,36 @@ ghost use Rattle.model_text.specs.Readability.{IsReadable, is_bad as is_bad_form
 ghost use Rattle.model_text.specs.declared.text.TextRefusal.TheVariants.{Memory as TextMemory};
 
 use crate::cursor::{Cursor, Fault};
-use crate::lexer::lex;
 use crate::limits::{LimitKind, MOST_OPERATORS, most_operators, passed_limit};
 use crate::reader::statements;
 use crate::statement::RawModel;
-use crate::token::{Token, TokenKind};
-use crate::version::of_version;
-use std::alloc::{AllocError, Global};
+use model_tokens::{Token, TokenKind, lex, of_version};
+use source_sink::Memory;
+use std::alloc::Global;
+use thiserror::Error;
 
 /// Why a text has no statements. Places are of bytes, from 0.
-#[derive(Clone, Copy, Debug, PartialEq, Eq)]
+#[derive(Clone, Copy, Debug, PartialEq, Eq, Error)]
 pub enum TextRefusal {
     /// A byte that no token has stands there, outside comments. It is the first one.
+    #[error("bad byte at {0}")]
     BadByte(u64),
     /// The text passes a limit.
+    #[error("limit {0:?}")]
     Limit(LimitKind),
     /// The bytes are no statements. The tokens up to that of the place and with it begin no text
     /// that is one, and it is the first such token; where there is none, it is the length.
+    #[error("syntax at byte {0}")]
     Syntax(u64),
     /// Memory ran out.
+    #[error("memory ran out")]
     Memory,
 }
 
-impl From<AllocError> for TextRefusal {
+impl From<Memory> for TextRefusal {
     ghost from_gives = { λ _ e. e ≡ TextMemory };
 
-    fn from(_: AllocError) -> TextRefusal {
+    fn from(_: Memory) -> TextRefusal {
         TextRefusal::Memory
     }
 }

@@ -11,7 +11,7 @@ use crate::cursor::{Cursor, Fault};
 use crate::part_reader::declared_name;
 use crate::raw_formula::RawValue;
 use crate::statement::{RawState, StatementKind};
-use crate::token::Sign;
+use model_tokens::Sign;
 use state_space::{Keyword, Name};
 use std::alloc::Global;
 

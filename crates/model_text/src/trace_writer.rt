@@ -12,7 +12,7 @@ use crate::line::Line;
 use crate::part_writer::declared_name;
 use crate::raw_formula::RawValue;
 use crate::statement::RawState;
-use crate::token::Sign;
+use model_tokens::Sign;
 use source_sink::Memory;
 use state_space::{Keyword, Name};
 

@@ -2,7 +2,8 @@
 //! spacing.
 
 use crate::cells::same;
-use model_text::{model_text, read_model};
+use model_text::{TextRefusal, model_text, read_model};
+use model_tokens::lex;
 use std::alloc::Global;
 use std::process::Abort;
 use std::test::Fail;
@@ -125,6 +126,23 @@ operation o by p dompre f (a) dompost not f (b);
 require r on o trig some x: T (f (x));
 ";
 
+// Version 1 has the keywords of version 2 as names.
+const NAMES_OF_THE_FIRST: &str = "\
+var all: bool;
+var some: {entity, attr};
+domain entity: always (all implies some = attr);
+goal all: some = entity entails eventually all;
+agent attr monitors all controls some;
+";
+
+// Whole texts of version 2, and how they are written, one statement a line.
+const WHOLE: &str = "\
+entity Track: {t1, t2}; attr red of Track: bool; attr busy of Track: bool; goal Safe: always (all x: Track (busy(x) implies red(x))); goal S1: busy_t1 entails red_t1; goal S2: busy_t2 entails red_t2; refine Safe by S1, S2; | entity Track: {t1, t2}; attr red of Track: bool; attr busy of Track: bool; goal Safe: always all x: Track (busy (x) implies red (x)); goal S1: busy_t1 entails red_t1; goal S2: busy_t2 entails red_t2; refine Safe by S1, S2;
+entity T: {a};
+entity T: {a, b}; var f_a: bool; attr f of T: bool;
+entity T: {a, b, c, d, e, g, h, i}; attr f of T: bool; domain D: all w: T (all x: T (all y: T (all z: T (f(z))))); | entity T: {a, b, c, d, e, g, h, i}; attr f of T: bool; domain D: all w: T (all x: T (all y: T (all z: T (f (z)))));
+";
+
 // The written form of a text.
 fn rewritten(alloc: Global, version: &str, statements: &str) -> Result<Vec<u8>, Fail> {
     let text = format!(in alloc; "{version} {statements}")?;
@@ -157,6 +175,17 @@ fn rewrite_rows(rt: &impl Abort, alloc: Global, version: &str, rows: &str) -> Re
     Ok(())
 }
 
+// Rewrites texts of several statements.
+fn rewrite_texts(rt: &impl Abort, alloc: Global, rows: &str) -> Result<(), Fail> {
+    for row in rows.lines() {
+        let (text, written) = row.split_once(" | ").unwrap_or((row, row));
+        let written = written.replace(alloc, "; ", ";\n")?;
+        rewrite(rt, alloc, "kaos 2;", text, &written)?;
+        rewrite(rt, alloc, "kaos 2;", &written, &written)?;
+    }
+    Ok(())
+}
+
 // What version 1 has, version 2 has too.
 #[test]
 fn statements(rt: HostRuntime) -> Result<(), Fail> {
@@ -164,7 +193,37 @@ fn statements(rt: HostRuntime) -> Result<(), Fail> {
         rewrite_rows(&rt, rt.alloc(), "kaos 1;", rows)?;
         rewrite_rows(&rt, rt.alloc(), "kaos 2;", rows)?;
     }
-    rewrite_rows(&rt, rt.alloc(), "kaos 1;", "var all: bool;")?;
+    rewrite_rows(&rt, rt.alloc(), "kaos 1;", NAMES_OF_THE_FIRST)?;
     rewrite_rows(&rt, rt.alloc(), "kaos 2;", SECOND)?;
+    rewrite_texts(&rt, rt.alloc(), WHOLE)?;
     rewrite(&rt, rt.alloc(), "kaos 1;", FORMS, FORMS.trim_end())
+}
+
+// Cuts a text behind each of its tokens: what comes next is missing at the end, unless the token
+// ends a statement.
+fn read_cut(rt: &impl Abort, alloc: Global, version: &str, statement: &str) -> Result<(), Fail> {
+    let text = format!(in alloc; "{version} {statement}")?;
+    for token in lex(alloc, text.as_bytes())? {
+        let front = text.get(..token.at).ok_or("a token outside its text")?.trim_end();
+        let refusal = if front.ends_with(';') {
+            None
+        } else {
+            Some(TextRefusal::Syntax(front.len() as u64))
+        };
+        assert_eq!(rt; read_model(alloc, front.as_bytes()).err(), refusal, "{front}");
+    }
+    Ok(())
+}
+
+#[test]
+fn cut_statements(rt: HostRuntime) -> Result<(), Fail> {
+    for statement in FORMS.lines() {
+        read_cut(&rt, rt.alloc(), "kaos 1;", statement)?;
+        read_cut(&rt, rt.alloc(), "kaos 2;", statement)?;
+    }
+    for row in SECOND.lines() {
+        let (text, _) = row.split_once(" | ").unwrap_or((row, row));
+        read_cut(&rt, rt.alloc(), "kaos 2;", text)?;
+    }
+    Ok(())
 }

@@ -3,7 +3,7 @@ use Rattle.std.specs.Global.{Vec}
 use Rattle.model_text.specs.declared.raw_formula.RawValue.{RawValue}
 use Rattle.std.proofs.lemmas.Result.{err_from_is_err_and}
 use Rattle.std.proofs.lemmas.List.{map-append}
-use Rattle.model_text.specs.declared.token.Sign.TheVariants.{Comma}
+use Rattle.model_tokens.specs.declared.token.Sign.TheVariants.{Comma}
 use Rattle.model_text.specs.RawView.{written}
 use Rattle.model_text.specs.Reading.{behind_mark}
 use Rattle.model_text.proofs.FormulaTurns.{values_more, values_done}

@@ -1,6 +1,6 @@
 use Rattle.std.proofs.Common.{◌∷◌, []}
-use Rattle.model_text.specs.declared.token.Sign.TheVariants.{Comma}
-use Rattle.model_text.specs.Tokens.{mark}
+use Rattle.model_tokens.specs.declared.token.Sign.TheVariants.{Comma}
+use Rattle.model_tokens.specs.Tokens.{mark}
 use Rattle.model_text.specs.RawView.{written}
 use Rattle.model_text.specs.Writing.{value_token}
 use Rattle.model_text.proofs.LineLaws.{next_part}

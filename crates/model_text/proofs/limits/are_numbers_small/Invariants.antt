@@ -1,6 +1,6 @@
 use Rattle.std.proofs.Common.{◌≡◌, map, drop}
 use Rattle.std.specs.List.{list_all}
-use Rattle.model_text.specs.Tokens.{form_of}
+use Rattle.model_tokens.specs.Tokens.{form_of}
 use Rattle.model_text.specs.Limits.{is_small}
 use Rattle.model_text.proofs.limits.are_numbers_small.Given as goal
 

@@ -1,5 +1,5 @@
 use Rattle.std.proofs.Common.{◌≡◌, ◌≤◌, max, map, drop}
-use Rattle.model_text.specs.Tokens.{form_of}
+use Rattle.model_tokens.specs.Tokens.{form_of}
 use Rattle.model_text.specs.Limits.{most_operators}
 use Rattle.model_text.proofs.limits.most_operators.Given as goal
 

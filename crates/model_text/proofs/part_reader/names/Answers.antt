@@ -1,7 +1,7 @@
 use Rattle.std.proofs.Common.{ℕ, List, ◌-◌, length, refl, ap, ◌∙◌, arith}
 use Rattle.std.proofs.lemmas.Result.{err_from_is_err_and}
 use Rattle.std.specs.Global.{Vec}
-use Rattle.model_text.specs.declared.token.Sign.TheVariants.{Comma}
+use Rattle.model_tokens.specs.declared.token.Sign.TheVariants.{Comma}
 use Rattle.model_text.specs.Reading.{behind_mark, name_at}
 use Rattle.model_text.proofs.Turns.{fails_so, more_more, more_done}
 use Rattle.model_text.proofs.part_reader.names.Goals as goal

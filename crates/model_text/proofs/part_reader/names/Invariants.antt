@@ -1,5 +1,5 @@
 use Rattle.std.proofs.Common.{◌≡◌, ℕ, ◌≤◌, ◌<◌, length}
-use Rattle.model_text.specs.declared.token.Sign.TheVariants.{Comma}
+use Rattle.model_tokens.specs.declared.token.Sign.TheVariants.{Comma}
 use Rattle.model_text.specs.Reading.{left, name_at}
 use Rattle.model_text.specs.Readers.{more_at}
 use Rattle.model_text.specs.StatementReading.{names_at}

@@ -1,6 +1,6 @@
 use Rattle.std.proofs.Common.{◌∷◌, []}
-use Rattle.model_text.specs.declared.token.Sign.TheVariants.{Comma}
-use Rattle.model_text.specs.Tokens.{mark, name}
+use Rattle.model_tokens.specs.declared.token.Sign.TheVariants.{Comma}
+use Rattle.model_tokens.specs.Tokens.{mark, name}
 use Rattle.model_text.proofs.LineLaws.{next_part}
 use Rattle.model_text.proofs.part_writer.more_names.Goals as goal
 

@@ -1,5 +1,5 @@
 use Rattle.std.proofs.Common.{◌≡◌, ◌∷◌, [], take}
-use Rattle.model_text.specs.Tokens.{name}
+use Rattle.model_tokens.specs.Tokens.{name}
 use Rattle.model_text.specs.Lines.{with_tokens, behind_commas}
 use Rattle.model_text.proofs.part_writer.more_names.Given as goal
 

@@ -1,6 +1,6 @@
 use Rattle.std.proofs.Common.{◌∷◌, [], ◌∙◌}
 use Rattle.std.proofs.lemmas.Result.{on_ok_weaker}
-use Rattle.model_text.specs.Tokens.{name}
+use Rattle.model_tokens.specs.Tokens.{name}
 use Rattle.model_text.proofs.LineLaws.{listed}
 use Rattle.model_text.proofs.part_writer.names.Goals as goal
 

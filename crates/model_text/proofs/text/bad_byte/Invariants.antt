@@ -1,5 +1,5 @@
 use Rattle.std.proofs.Common.{◌≡◌, drop}
-use Rattle.model_text.specs.Tokens.{all_placed}
+use Rattle.model_tokens.specs.Tokens.{all_placed}
 use Rattle.model_text.specs.Readability.{first_bad}
 use Rattle.model_text.proofs.text.bad_byte.Given as goal
 

@@ -1,6 +1,6 @@
 use Rattle.std.proofs.Common.{ℕ, map, ap, ◌∙◌}
 use Rattle.std.specs.Prelude.{slice_index_or}
-use Rattle.model_text.specs.declared.token.Token.{Token}
+use Rattle.model_tokens.specs.declared.token.Token.{Token}
 use Rattle.model_text.proofs.TokenPlaces.{placed_at}
 use Rattle.model_text.proofs.text.place_of.Goals as goal
 

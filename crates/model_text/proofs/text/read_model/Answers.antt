@@ -1,6 +1,6 @@
 use Rattle.std.proofs.Common.{◌≡◌, ◌≤◌, length, vec_len, map, Some, None, Ok, Err, sym, ◌∙◌, inr, arith}
 use Rattle.std.proofs.lemmas.List.{length-map}
-use Rattle.model_text.specs.Tokens.{form_of, all_placed}
+use Rattle.model_tokens.specs.Tokens.{form_of, all_placed}
 use Rattle.model_text.specs.Statements.{statements_of}
 use Rattle.model_text.specs.Limits.{most_operators, passed_limit}
 use Rattle.model_text.specs.Readability.{first_bad, a_bad_byte}

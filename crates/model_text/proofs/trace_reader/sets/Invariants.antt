@@ -1,5 +1,5 @@
 use Rattle.std.proofs.Common.{◌≡◌, ℕ, ◌<◌, ◌≤◌, length, map}
-use Rattle.model_text.specs.declared.token.Sign.TheVariants.{Comma}
+use Rattle.model_tokens.specs.declared.token.Sign.TheVariants.{Comma}
 use Rattle.model_text.specs.Reading.{left}
 use Rattle.model_text.specs.Readers.{listed_at, more_at}
 use Rattle.model_text.specs.StatementReading.{setting_of, set_at}

@@ -2,7 +2,7 @@ use Rattle.std.proofs.Common.{◌≡◌, ◌++◌, ◌∷◌, [], ◌-◌, lengt
 use Rattle.std.specs.Global.{Vec}
 use Rattle.std.proofs.lemmas.Result.{err_from_is_err_and}
 use Rattle.std.proofs.lemmas.List.{map-append}
-use Rattle.model_text.specs.declared.token.Sign.TheVariants.{OpenBrace}
+use Rattle.model_tokens.specs.declared.token.Sign.TheVariants.{OpenBrace}
 use Rattle.model_text.specs.Reading.{behind_mark}
 use Rattle.model_text.specs.declared.statement.RawState.{RawState}
 use Rattle.model_text.specs.Statements.{settings_of}

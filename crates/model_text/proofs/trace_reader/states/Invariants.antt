@@ -1,5 +1,5 @@
 use Rattle.std.proofs.Common.{◌≡◌, ℕ, ◌≤◌, length, map}
-use Rattle.model_text.specs.declared.token.Sign.TheVariants.{OpenBrace}
+use Rattle.model_tokens.specs.declared.token.Sign.TheVariants.{OpenBrace}
 use Rattle.model_text.specs.Reading.{left}
 use Rattle.model_text.specs.Statements.{settings_of}
 use Rattle.model_text.specs.Readers.{more_at}
