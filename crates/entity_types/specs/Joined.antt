@@ -1,5 +1,5 @@
 -- The variables of an attribute: one for each member of its type, in member order, each of the attribute's name, a `_` and the member's.
-use Rattle.std.specs.Prelude.{◌≡◌, ℕ, ◌+◌, ◌<◌, ◌≤◌, List, [], ◌∷◌, ◌++◌, length, map, Option, Some, slice_get, slice_index, slice_index_or, Bool, position, bytes_eq, nat_lt}
+use Rattle.std.specs.Prelude.{◌≡◌, ℕ, ◌<◌, List, [], ◌∷◌, ◌++◌, length, map, Option, Some, slice_get, slice_index_or, Bool, position, bytes_eq, nat_lt}
 use Rattle.std.specs.List.{list_any}
 use Rattle.entity_types.specs.declared.entities.Entities.{Entities}
 use Rattle.entity_types.specs.Rows.{owner_of, variable_of}

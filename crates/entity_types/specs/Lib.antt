@@ -7,3 +7,4 @@ pub mod WrittenTruth
 pub mod Grounding
 pub mod Fits
 pub mod Joined
+pub mod Attributes

@@ -1,6 +1,6 @@
 -- Entity types and attributes, as far as the truth of a formula asks for them: an attribute is a row of variables, one for each member
 -- of its type, in order.
-use Rattle.std.specs.Prelude.{ℕ, ◌+◌, ◌<◌, ◌≤◌, List, length, slice_index}
+use Rattle.std.specs.Prelude.{ℕ, ◌+◌, ◌*◌, ◌<◌, ◌≤◌, List, length, slice_index}
 
 -- types and attributes by their numbers, from 0; names play no part in truth
 pub record Rows : Type 0 where
@@ -27,7 +27,8 @@ variable_of rows attr member = slice_index rows.firsts attr + member
 abbrev pub HasMembers : Rows → Type 0
 HasMembers rows = (entity : ℕ) → entity < length rows.counts → 0 < count_of rows entity
 
--- each attribute's type is there, and its variables are among the first 64
+-- each attribute's type is there, its variables are among the first 64, and each attribute before it has two of these or more
 pub record IsPlaced (rows : Rows) : Type 0 where
   pub owned : (attr : ℕ) → attr < length rows.owners → owner_of rows attr < length rows.counts
   pub inside : (attr : ℕ) → attr < length rows.owners → slice_index rows.firsts attr + count_of rows (owner_of rows attr) ≤ 64
+  pub ordered : (attr : ℕ) → attr < length rows.owners → 2 * attr ≤ slice_index rows.firsts attr

@@ -4,8 +4,9 @@ ghost use Rattle.std.specs.Prelude.{◌≡◌, ◌≢◌, ◌≤◌, length, map
 ghost use Rattle.entity_types.specs.Rows.{IsPlaced};
 ghost use Rattle.entity_types.specs.OneProof.{IsPlaced-prop};
 
+use crate::joined::add_row;
 use source_sink::Memory;
-use state_space::{AddRefusal, Name, NameRefusal, Range, Space, VarId};
+use state_space::{Name, Range, Space, VarId};
 use std::alloc::{AllocError, AllocFailed, Global};
 
 /// Why an entity type or an attribute is not added.
@@ -43,6 +44,16 @@ impl<T: Drop> From<AllocFailed<T>> for EntityRefusal {
     }
 }
 
+impl From<Memory> for EntityRefusal {
+    ghost use Rattle.entity_types.specs.declared.entities.EntityRefusal.TheVariants.{Memory};
+
+    ghost from_gives = { λ _ e. e ≡ Memory };
+
+    fn from(_: Memory) -> EntityRefusal {
+        EntityRefusal::Memory
+    }
+}
+
 // A type: 2 to 8 members, no two of one name.
 #[derive(Drop)]
 struct EntityType {
@@ -74,7 +85,11 @@ impl Entities {
     ghost use Rattle.std.specs.Prelude.{◌⊎◌, ◌↔◌, ℕ, ◌+◌, ◌<◌, [], ◌∷◌, ◌++◌, IfOk, OnOk, OnErr, IfErr, IsErrOf};
     ghost use Rattle.entity_types.specs.Rows.{count_of, owner_of, variable_of};
     ghost use Rattle.entity_types.specs.View.{type_names, member_names, attribute_names, attributes, rows_of};
+    ghost use Rattle.entity_types.specs.Joined.{joined_names, members_of, AreAmong};
+    ghost use Rattle.entity_types.specs.Attributes.{RefusesAttribute, TakesAttribute};
     ghost use Rattle.entity_types.specs.declared.entities.EntityRefusal.TheVariants.{BadRange as BadRangeCause, Memory as MemoryCause};
+    ghost use Rattle.state_space.specs.Ranges.{form_of};
+    ghost use Rattle.state_space.specs.Spaces.{names, ranges};
 
     /// No types. It takes no memory.
     pub fn new(alloc: Global) -> Entities
@@ -96,6 +111,16 @@ impl Entities {
         ensures few { result ≤ 8 }
     {
         self.types[entity as usize].members.len() as u8
+    }
+
+    // The members of a type, which is there.
+    fn members(&self, entity: u16) -> &[Name]
+        requires { entity < length (rows_of self.now).counts }
+        ensures members { result.now ≡ members_of self.now entity }
+        ensures few { length result.now ≤ 8 }
+        ensures distinct { AllPairs (λ a b. a ≢ b) result.now }
+    {
+        &self.types[entity as usize].members
     }
 
     /// The variable of an attribute and a member of its type, which are there.
@@ -127,6 +152,45 @@ impl Entities {
         }
         let id = self.types.len() as u16;
         self.types.push(EntityType { name, members })?;
+        Ok(id)
+    }
+
+    /// Appends an attribute of a type that is there: to the space one variable of the range for each
+    /// member, in order, named by the attribute, a `_` and the member. Its number is the old count.
+    /// `BadRange` comes where a variable can not have the range, `LongName` else where a name is over
+    /// 40 bytes, `DuplicateName` else where the space has a name, `TooManyVars` else where more than
+    /// 64 variables would be there, and `Memory` in place of any. After a refusal the entities are as
+    /// they were, and so is the space, but that after `Memory` it may have some of the variables.
+    pub fn add_attr(
+        &mut self,
+        space: &mut Space,
+        name: Name,
+        entity: u16,
+        range: Range,
+    ) -> Result<u8, EntityRefusal>
+        requires entity { entity < length (rows_of self.old).counts }
+        requires among { AreAmong self.old (names space.old) }
+        ensures refused { IfErr result (λ e. (e ≡ MemoryCause) ⊎ RefusesAttribute (names space.old) name (members_of self.old entity) (form_of range) e) }
+        ensures taken { OnOk result (TakesAttribute (names space.old) name (members_of self.old entity) (form_of range)) }
+        ensures id { IfOk result (λ id. id ≡ length (attribute_names self.old)) }
+        ensures attributes { OnOk result (attributes self.new ≡ attributes self.old ++ (record { name = name; entity = entity; first = length (names space.old) }) ∷ []) }
+        ensures names { OnOk result (names space.new ≡ names space.old ++ joined_names name (members_of self.old entity)) }
+        ensures ranges { OnOk result (ranges space.new ≡ ranges space.old ++ map (λ m. form_of range) (members_of self.old entity)) }
+        ensures among { OnOk result (AreAmong self.new (names space.new)) }
+        ensures same_types { type_names self.new ≡ type_names self.old }
+        ensures same_members { member_names self.new ≡ member_names self.old }
+        ensures same_attributes { OnErr result (attributes self.new ≡ attributes self.old) }
+        ensures same_names { IfErr result (λ e. e ≢ MemoryCause → names space.new ≡ names space.old) }
+        ensures same_ranges { IfErr result (λ e. e ≢ MemoryCause → ranges space.new ≡ ranges space.old) }
+    {
+        let alloc = *self.types.allocator();
+        let id = self.attributes.len() as u8;
+        let first = add_row(alloc, space, &name, self.members(entity), &range)?;
+        self.attributes.push(Attribute {
+            name,
+            entity,
+            first,
+        })?;
         Ok(id)
     }
 }

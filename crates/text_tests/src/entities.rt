@@ -1,18 +1,18 @@
-//! Entity types, the plain formulas of quantifiers over them, and how large these are. A formula of
-//! a table is in prefix notation: each digit is the variable of that number.
+//! Entity types and their attributes, the plain formulas of quantifiers over them, and how large
+//! these are. A formula of a table is in prefix notation: each digit is the variable of that number.
 
 ghost use Rattle.std.specs.Prelude.{◌≡◌, ◌≢◌, ◌<◌, ◌≤◌, ◌+◌, ℕ, List, length, AllPairs, OnOk, IfOk};
 ghost use Rattle.entity_types.specs.Fits.{Fits};
 ghost use Rattle.entity_types.specs.Rows.{Rows};
-ghost use Rattle.entity_types.specs.View.{type_names, rows_of, written_tree};
+ghost use Rattle.entity_types.specs.View.{type_names, attribute_names, rows_of, written_tree};
 
-use crate::cells::{halves, same};
+use crate::cells::{cell, halves, same};
 use crate::formulas::formula;
-use crate::spaces::declared;
+use crate::spaces::{declared, space_of};
 use entity_types::{
     Atom, Entities, EntityRefusal, Joining, Opening, Term, Written, ground, ground_size,
 };
-use state_space::{Name, Range, VarId};
+use state_space::{Name, Range, Space, VarId};
 use std::alloc::Global;
 use std::process::Abort;
 use std::test::Fail;
@@ -66,6 +66,98 @@ fn add(rt: &impl Abort, alloc: Global, entities: &mut Entities, text: &str) -> R
     let (name, members) = members(rt, alloc, text)?;
     let id = entities.add_entity(name, members)?;
     Ok(id)
+}
+
+// A type of two members.
+fn one_type(rt: &impl Abort, alloc: Global) -> Result<Entities, Fail>
+    ensures one { IfOk result (λ e. length (rows_of e).counts ≡ 1) }
+    ensures none { IfOk result (λ e. length (attribute_names e) ≡ 0) }
+{
+    let mut entities = Entities::new(alloc);
+    let (name, members) = members(rt, alloc, "var T: {a, b};")?;
+    entities.add_entity(name, members)?;
+    Ok(entities)
+}
+
+// What comes of an attribute of such a type, written as a variable.
+fn attributed(
+    rt: &impl Abort,
+    alloc: Global,
+    space: &mut Space,
+    text: &str,
+) -> Result<&'static str, Fail> {
+    let mut entities = one_type(rt, alloc)?;
+    let (name, range) = declared(alloc, text)?;
+    Ok(match entities.add_attr(space, name, 0, range) {
+        Ok(0) => "added",
+        Err(EntityRefusal::BadRange) => "BadRange",
+        Err(EntityRefusal::LongName) => "LongName",
+        Err(EntityRefusal::DuplicateName(0)) => "DuplicateName of a",
+        Err(EntityRefusal::DuplicateName(1)) => "DuplicateName of b",
+        Err(EntityRefusal::TooManyVars) => "TooManyVars",
+        _ => "another answer",
+    })
+}
+
+// An attribute of a type of members a and b, a variable that is there, and what comes of it.
+const ATTRIBUTES: &str = "\
+var f: bool; | var f: bool; | added
+var f: 0..64; | var f_a: bool; | BadRange
+var a23456789012345678901234567890123456789: 0..64; | var f: bool; | BadRange
+var a2345678901234567890123456789012345678: bool; | var f: bool; | added
+var a23456789012345678901234567890123456789: bool; | var f: bool; | LongName
+var f: bool; | var f_a: bool; | DuplicateName of a
+var f: bool; | var f_b: bool; | DuplicateName of b
+";
+
+#[test]
+fn attributes(rt: HostRuntime) -> Result<(), Fail> {
+    for row in ATTRIBUTES.lines() {
+        let mut space = space_of(rt.alloc(), cell(row, 1)?)?;
+        let answer = attributed(&rt, rt.alloc(), &mut space, cell(row, 0)?)?;
+        same(&rt, answer.as_bytes(), cell(row, 2)?, row);
+    }
+    Ok(())
+}
+
+// Adds truth variables of other names up to a count.
+fn fill(alloc: Global, space: &mut Space, count: u8) -> Result<(), Fail> {
+    for index in space.count()..count {
+        let name = Name::new(alloc, &[b'v', b'a' + index / 8, b'a' + index % 8])?;
+        space.add(name, Range::Bool)?;
+    }
+    Ok(())
+}
+
+// How many variables there are, one of which is there, and what comes of an attribute `f`.
+const FULL_SPACES: &str = "\
+62 | var x: bool; | added
+63 | var x: bool; | TooManyVars
+64 | var x: bool; | TooManyVars
+64 | var f_b: bool; | DuplicateName of b
+";
+
+#[test]
+fn attributes_in_full_spaces(rt: HostRuntime) -> Result<(), Fail> {
+    for row in FULL_SPACES.lines() {
+        let mut space = space_of(rt.alloc(), cell(row, 1)?)?;
+        fill(rt.alloc(), &mut space, cell(row, 0)?.parse::<u8>()?)?;
+        let answer = attributed(&rt, rt.alloc(), &mut space, "var f: bool;")?;
+        same(&rt, answer.as_bytes(), cell(row, 2)?, row);
+    }
+    Ok(())
+}
+
+#[test]
+fn variables_of_attributes(rt: HostRuntime) -> Result<(), Fail> {
+    let mut entities = one_type(&rt, rt.alloc())?;
+    let mut space = Space::new(rt.alloc());
+    let f = entities.add_attr(&mut space, Name::new(rt.alloc(), b"f")?, 0, Range::Bool)?;
+    let g = entities.add_attr(&mut space, Name::new(rt.alloc(), b"g")?, 0, Range::Bool)?;
+    assert!(rt; f == 0 && g == 1 && space.count() == 4);
+    assert!(rt; space.find(b"f_a") == Some(VarId(0)) && space.find(b"f_b") == Some(VarId(1)));
+    assert!(rt; space.find(b"g_a") == Some(VarId(2)) && space.find(b"g_b") == Some(VarId(3)));
+    Ok(())
 }
 
 // Types of three and of eight members.

@@ -1,4 +1,4 @@
-use Rattle.std.proofs.Common.{◌≡◌, ℕ, ◌≤◌, [], ◌∷◌, ◌++◌}
+use Rattle.std.proofs.Common.{◌≡◌, [], ◌∷◌, ◌++◌}
 use Rattle.temporal_logic.specs.Trees.{tree_of}
 use Rattle.entity_types.specs.Operators.{joined}
 use Rattle.entity_types.specs.View.{written_tree, rows_of}

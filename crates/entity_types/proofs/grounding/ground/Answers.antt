@@ -1,10 +1,8 @@
-use Rattle.std.proofs.Common.{◌≡◌, ◌↔◌, ℕ, [], sym, subst, Ok, Err, Result}
+use Rattle.std.proofs.Common.{◌↔◌, [], sym, subst, Ok, Err, Result}
 use Rattle.std.specs.Result.{IfOk}
 use Rattle.temporal_logic.specs.Ltl.{Ltl}
-use Rattle.temporal_logic.specs.Trees.{tree_of}
-use Rattle.temporal_logic.specs.Truth.{Trace, Truth}
+use Rattle.temporal_logic.specs.Truth.{Truth}
 use Rattle.entity_types.specs.View.{written_tree, rows_of}
-use Rattle.entity_types.specs.Grounding.{ground_of}
 use Rattle.entity_types.specs.WrittenTruth.{WrittenTruth}
 use Rattle.entity_types.proofs.SameTruth.{ground_same}
 use Rattle.entity_types.proofs.EntityFacts.{types_have_members}
