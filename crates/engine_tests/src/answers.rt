@@ -32,6 +32,8 @@ goal a: p; | 2 | over 2, withheld 2
 goal a: p; | 1 | over 1, withheld 1
 goal a: always next eventually p; goal b: eventually p; | 7 | whole [1] [2] [3, 4] [5] [6] [0] [0], found loop [1, 0, 0]
 goal a: always next eventually p; goal b: eventually p; | 6 | over 6, withheld 6
+goal a: eventually within 100 eventually within 100 p; | 602 | over 602, withheld 602
+goal a: eventually within 100 eventually within 100 p; | 603 | found [1, 0, 0] loop [0, 0, 0]
  | 1 | whole [0], found loop [0, 0, 0]
  | 0 | over 0, withheld 0
 goal a: always eventually p; goal b: always eventually not p; | 20000 | found [1, 0, 0] loop [0, 0, 0] [1, 0, 0]

@@ -7,13 +7,14 @@ ghost use Rattle.temporal_logic.specs.Fits.{Fits};
 ghost use Rattle.temporal_logic.specs.Trees.{tree_of};
 ghost use Rattle.bound_unfolding.specs.CoreTexts.{CoreFits};
 ghost use Rattle.bound_unfolding.specs.CoreView.{core_tree_of};
-ghost use Rattle.bound_unfolding.specs.Totals.{AreSmall};
+ghost use Rattle.formula_table.specs.SmallLists.{AreSmall};
 ghost use Rattle.tableau_rules.specs.Queries.{IsOver};
 ghost use Rattle.tableau_rules.specs.QueryView.{cores_in};
 ghost use Rattle.goal_model.specs.Models.{model_of, IsWellFormed};
 
 use bound_unfolding::{Core, core_depth, core_of, core_size};
 use entailment::query_of;
+use formula_table::distinct_size;
 use goal_model::{Model, resolve};
 use model_text::read_model;
 use source_sink::Memory;
@@ -96,18 +97,16 @@ pub(crate) fn core(
 }
 
 // Whether the positive cores are small enough for a query.
-fn are_small(space: &Space, list: &[Formula]) -> bool
+fn are_small(alloc: Global, space: &Space, list: &[Formula]) -> Result<bool, Memory>
     requires fit { All (λ f. Fits (ranges space.now) (tree_of f)) list.now }
-    ensures small { IsTrue result → AreSmall (sizes space.now) (map tree_of list.now) }
+    ensures small { IfOk result (λ are. IsTrue are → AreSmall (sizes space.now) (map tree_of list.now)) }
 {
-    let mut nodes = 0;
     'formulas: for formula in list {
-        nodes = core_size(space, formula, true).saturating_add(nodes);
-        if nodes > 4096 || core_depth(space, formula, true) > 1000 {
-            return false;
+        if core_depth(space, formula, true) > 1000 {
+            return Ok(false);
         }
     }
-    true
+    Ok(distinct_size(alloc, space, list)? <= 4096)
 }
 
 // The query of the goals of a model.
@@ -116,7 +115,7 @@ fn query(rt: &impl Abort, alloc: Global, model: &Model) -> Result<Query, Memory>
     ensures over { IfOk result (λ query. All (IsOver (sizes model.now.space)) (cores_in query)) }
 {
     let list = formulas(alloc, model)?;
-    assert!(rt; are_small(&model.space, &list));
+    assert!(rt; are_small(alloc, &model.space, &list)?);
     query_of(alloc, &model.space, &list)
 }
 

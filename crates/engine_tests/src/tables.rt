@@ -2,8 +2,8 @@
 
 ghost use Rattle.goal_model.specs.Models.{model_of, IsWellFormed};
 
-use crate::reading::{core, goal, model};
-use formula_table::{FormulaId, PutRefusal, Shape, Table};
+use crate::reading::{core, cut, formulas, goal, model};
+use formula_table::{FormulaId, PutRefusal, Shape, Table, distinct_size};
 use goal_model::Model;
 use source_sink::Memory;
 use std::alloc::Global;
@@ -58,6 +58,15 @@ fn put_goal(
     Ok(())
 }
 
+// Puts a goal without its core's tree, and compares its number.
+fn put_straight(rt: &impl Abort, table: &mut Table, model: &Model, place: usize, number: u16)
+    requires well_formed { IsWellFormed (model_of model.now) }
+{
+    assert!(rt; place < model.goals.len());
+    let put = table.put_formula(&model.space, goal(model, place), true);
+    assert_eq!(rt; put, Ok(FormulaId(number)));
+}
+
 // The shapes of a table, a line each.
 fn shapes(alloc: Global, table: &Table) -> Result<String, Fail> {
     let mut out = String::new(alloc);
@@ -83,9 +92,63 @@ fn compare(rt: &impl Abort, alloc: Global, model: &Model) -> Result<(), Fail>
     Ok(())
 }
 
+// Puts both goals straight, which gives the same table, and forgets some of it.
+fn compare_straight(rt: &impl Abort, alloc: Global, model: &Model) -> Result<(), Fail>
+    requires well_formed { IsWellFormed (model_of model.now) }
+{
+    let mut table = Table::new(alloc);
+    put_straight(rt, &mut table, model, 0, 2);
+    put_straight(rt, &mut table, model, 1, 5);
+    let text = shapes(alloc, &table)?;
+    assert_eq!(rt; text.as_str(), SHAPES);
+    assert!(rt; table.same(&table));
+    table.truncate(3);
+    assert_eq!(rt; table.len(), 3);
+    assert!(rt; !table.same(&Table::new(alloc)));
+    Ok(())
+}
+
 #[test]
 fn numbers_and_shapes(rt: HostRuntime) -> Result<(), Fail> {
     let goals = "goal a: eventually p; goal b: always not p;";
     let model = model(&rt, rt.alloc(), "var p: bool;", goals)?;
-    compare(&rt, rt.alloc(), &model)
+    compare(&rt, rt.alloc(), &model)?;
+    compare_straight(&rt, rt.alloc(), &model)
+}
+
+// The variables of the goals whose subformulas are counted.
+const VARIABLES: &str =
+    "var a: bool; var b: bool; var c: bool; var d: bool; var e: bool; var f: bool; var x: 0..63; var z: 0..63;";
+
+// Goals, and how many distinct subformulas their positive cores have together: 4097 stands for more, too.
+const DISTINCT: &str = "\
+goal g: true; | 1
+goal g: always a; | 3
+goal g: eventually within 100 a; | 201
+goal g: eventually within 100 eventually within 100 a; | 401
+goal g: a until within 100 b; | 302
+goal g: a until within 0 b; | 1
+goal g: a iff (a iff (a iff a)); | 17
+goal g: always x = z; | 257
+goal g: always a; goal h: eventually a; goal i: always a; | 5
+goal g: next next next (always within 100 always within 100 always within 100 always within 100 a and always within 100 always within 100 always within 100 always within 100 b and always within 100 always within 100 always within 100 always within 100 c and always within 100 always within 100 always within 100 always within 100 d and always within 100 always within 100 always within 100 always within 100 e and always within 41 f); | 4096
+goal g: next next next next (always within 100 always within 100 always within 100 always within 100 a and always within 100 always within 100 always within 100 always within 100 b and always within 100 always within 100 always within 100 always within 100 c and always within 100 always within 100 always within 100 always within 100 d and always within 100 always within 100 always within 100 always within 100 e and always within 41 f); | 4097
+goal g: next next next next next (always within 100 always within 100 always within 100 always within 100 a and always within 100 always within 100 always within 100 always within 100 b and always within 100 always within 100 always within 100 always within 100 c and always within 100 always within 100 always within 100 always within 100 d and always within 100 always within 100 always within 100 always within 100 e and always within 41 f); | 4097
+";
+
+fn count(rt: &impl Abort, alloc: Global, row: &str) -> Result<(), Fail> {
+    let (goals, distinct) = cut(row)?;
+    let model = model(rt, alloc, VARIABLES, goals)?;
+    let list = formulas(alloc, &model)?;
+    let size = distinct_size(alloc, &model.space, &list)?;
+    assert_eq!(rt; size, distinct.parse::<u64>()?, "{row}");
+    Ok(())
+}
+
+#[test]
+fn distinct_subformulas(rt: HostRuntime) -> Result<(), Fail> {
+    for row in DISTINCT.lines() {
+        count(&rt, rt.alloc(), row)?;
+    }
+    Ok(())
 }

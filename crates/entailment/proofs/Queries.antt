@@ -1,5 +1,5 @@
 -- The positive cores of formulas, as a query.
-use Rattle.std.proofs.Common.{◌≡◌, ℕ, zero, suc, ◌<◌, ◌≤◌, ◌↔◌, List, [], ◌∷◌, length, map, get_or, true, refl, sym, ap, subst, arith}
+use Rattle.std.proofs.Common.{◌≡◌, ◌↔◌, List, [], ◌∷◌, map, true, sym, subst, arith}
 use Rattle.std.specs.Prelude.{All}
 use Rattle.std.specs.List.{AllByRecursion as Each}
 use Rattle.std.proofs.lemmas.List.{length-map}
@@ -14,10 +14,10 @@ use Rattle.temporal_logic.specs.Ltl.{Ltl}
 use Rattle.temporal_logic.specs.Truth.{Trace, Truth, Meets}
 use Rattle.temporal_logic.specs.Traces.{IsPeriodic}
 use Rattle.temporal_logic.specs.Fits.{Fits}
-use Rattle.bound_unfolding.specs.CoreForm.{CoreForm, core_true, core_false, lit, both, either, after, core_until, core_release, CoreTruth, nodes, levels}
+use Rattle.bound_unfolding.specs.CoreForm.{CoreForm, core_true, core_false, lit, both, either, after, core_until, core_release, CoreTruth}
 use Rattle.bound_unfolding.specs.CoreTexts.{CoreFits}
 use Rattle.bound_unfolding.specs.CoreTree.{core_tree}
-use Rattle.bound_unfolding.specs.Totals.{total_nodes, cores_of, AreSmall}
+use Rattle.bound_unfolding.specs.CoreLists.{cores_of}
 use Rattle.bound_unfolding.proofs.CoreTruths.{core_truth}
 use Rattle.bound_unfolding.proofs.SpaceCores.{space_core_fits}
 use Rattle.tableau_rules.specs.Queries.{IsOver, MeetsAll}
@@ -51,32 +51,6 @@ query_law ranges good list fit t p =
       (λ m. All-from_recursion (λ f. Truth t f 0) list (of_cores ranges good t p list fits (recursion_from_All (λ c. CoreTruth t c 0) cores m))),
       (λ m. All-from_recursion (λ c. CoreTruth t c 0) cores (to_cores ranges good t p list fits (recursion_from_All (λ f. Truth t f 0) list m))),
     )
-
--- ---- one formula of a list that is small
-nodes_within : {X : Type 0} (core : X → CoreForm) (xs : List X) (k : ℕ) (x : X) → k < length xs → x ≡ get_or xs k x → nodes (core x) ≤ total_nodes (map core xs)
-nodes_within core [] k x l e = absurd (omega (arith, l))
-nodes_within core (y ∷ ys) zero x l e = let q = ap (λ z. nodes (core z)) e in omega (arith, q)
-nodes_within core (y ∷ ys) (suc k) x l e = let r = nodes_within core ys k x (omega (arith, l)) e in omega (arith, r)
-
-map_of_map : {X Y Z : Type 0} (f : X → Y) (g : Y → Z) (xs : List X) → map g (map f xs) ≡ map (λ x. g (f x)) xs
-map_of_map f g [] = refl
-map_of_map f g (x ∷ xs) = ap (λ zs. g (f x) ∷ zs) (map_of_map f g xs)
-
-module _ {X : Type 0} (sizes : List ℕ) (tree : X → Ltl) (list : List X) (small : AreSmall sizes (map tree list)) (k : ℕ) (x : X) (l : k < length list) (e : x ≡ get_or list k x) where
-  pub one_size : nodes (core_tree sizes true (tree x)) ≤ 4096
-  one_size =
-      let a = nodes_within (λ y. core_tree sizes true (tree y)) list k x l e in
-      let b = small.nodes in
-      let q = ap total_nodes (map_of_map tree (core_tree sizes true) list) in
-      omega (arith, a, b, q)
-
-  pub one_depth : levels (core_tree sizes true (tree x)) ≤ 1000
-  one_depth = each_at list k l e (recursion_from_All (λ f. levels (core_tree sizes true f) ≤ 1000) (map tree list) small.levels)
-    where
-      each_at : (xs : List X) (k : ℕ) → k < length xs → x ≡ get_or xs k x → Each (λ f. levels (core_tree sizes true f) ≤ 1000) (map tree xs) → levels (core_tree sizes true (tree x)) ≤ 1000
-      each_at [] k l e h = absurd (omega (arith, l))
-      each_at (y ∷ ys) zero l e h = subst (λ z. levels (core_tree sizes true (tree z)) ≤ 1000) (sym e) h.0
-      each_at (y ∷ ys) (suc k) l e h = each_at ys k (omega (arith, l)) e h.1
 
 -- ---- the cores are over the variables of the space
 cores_over : (space : Space) (list : List Formula) → Each (λ f. Fits (ranges space) (tree_of f)) list → Each (IsOver (sizes space)) (cores_of (sizes space) (map tree_of list))

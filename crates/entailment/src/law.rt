@@ -7,7 +7,7 @@ ghost use Rattle.temporal_logic.specs.Ltl.{Ltl};
 ghost use Rattle.temporal_logic.specs.Truth.{Trace, Meets};
 ghost use Rattle.temporal_logic.specs.Traces.{IsPeriodic};
 ghost use Rattle.temporal_logic.specs.Fits.{Fits};
-ghost use Rattle.bound_unfolding.specs.Totals.{cores_of};
+ghost use Rattle.bound_unfolding.specs.CoreLists.{cores_of};
 ghost use Rattle.tableau_rules.specs.Queries.{MeetsAll};
 
 /// An ultimately periodic trace meets the positive cores of formulas exactly where it meets the

@@ -9,7 +9,7 @@ use Rattle.formula_table.proofs.Puts.{with_kept, with_self, with_known, with_siz
 use Rattle.formula_table.proofs.Cores.{kept_then, core_kept}
 
 -- ---- what stands in a core is there
-member_kept : (old new : List CoreForm) → IsKept old new → (c : CoreForm) → IsMember old c → IsMember new c
+pub member_kept : (old new : List CoreForm) → IsKept old new → (c : CoreForm) → IsMember old c → IsMember new c
 member_kept old new kept c m =
     let l = number_below old c m in
     member_where new c (number_in old c) (omega (arith, l, kept.0)) (kept.1 (number_in old c) l ∙ number_known old c m)
@@ -73,7 +73,7 @@ core_size (core_release a b) cl = size_two (core_release a b) a b cl (nodes a) (
 known_two : (f a b : CoreForm) (cl : List CoreForm) → with_core a cl ≡ cl → with_core b cl ≡ cl → IsMember cl f → with_formula f (with_core b (with_core a cl)) ≡ cl
 known_two f a b cl p q m = ap (λ z. with_formula f (with_core b z)) p ∙ ap (with_formula f) q ∙ with_known cl f m
 
-core_known : (c : CoreForm) (cl : List CoreForm) → ((d : CoreForm) → IsSubformula d c → IsMember cl d) → with_core c cl ≡ cl
+pub core_known : (c : CoreForm) (cl : List CoreForm) → ((d : CoreForm) → IsSubformula d c → IsMember cl d) → with_core c cl ≡ cl
 core_known core_true cl h = with_known cl core_true (h core_true refl)
 core_known core_false cl h = with_known cl core_false (h core_false refl)
 core_known (lit x s) cl h = with_known cl (lit x s) (h (lit x s) refl)

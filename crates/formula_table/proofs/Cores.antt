@@ -1,9 +1,9 @@
 -- What a core does to a closure: it stays, and what comes behind it stands in the core.
-use Rattle.std.proofs.Common.{◌≡◌, ℕ, ◌<◌, inl, inr, List, length, refl, sym, ◌∙◌, subst, arith}
+use Rattle.std.proofs.Common.{◌≡◌, ℕ, ◌<◌, inl, inr, List, [], ◌∷◌, length, refl, sym, ◌∙◌, subst, arith}
 use Rattle.std.specs.Prelude.{Contains}
 use Rattle.std.proofs.lemmas.Bool.{cases_lt}
 use Rattle.bound_unfolding.specs.CoreForm.{CoreForm, core_true, core_false, lit, both, either, after, core_until, core_release}
-use Rattle.formula_table.specs.Closures.{formula_at, with_formula, with_core}
+use Rattle.formula_table.specs.Closures.{formula_at, with_formula, with_core, with_cores}
 use Rattle.formula_table.specs.Tables.{with_operands, IsKept, AddsOnly, IsSubformula}
 use Rattle.formula_table.proofs.Puts.{with_kept, with_only, with_over}
 
@@ -92,3 +92,8 @@ core_only (either a b) cl = then_two (either a b) (λ d. IsSubformula d (either 
 core_only (after a) cl = then_self (after a) (λ d. IsSubformula d (after a)) (inl refl) cl (with_core a cl) (adds_as (λ d. IsSubformula d a) (λ d. IsSubformula d (after a)) cl (with_core a cl) (λ d h. inr h) (core_only a cl))
 core_only (core_until a b) cl = then_two (core_until a b) (λ d. IsSubformula d (core_until a b)) (inl refl) a b cl (λ d h. inr (inl h)) (λ d h. inr (inr h)) (core_only a cl) (core_only b (with_core a cl))
 core_only (core_release a b) cl = then_two (core_release a b) (λ d. IsSubformula d (core_release a b)) (inl refl) a b cl (λ d h. inr (inl h)) (λ d h. inr (inr h)) (core_only a cl) (core_only b (with_core a cl))
+
+-- what is there stays as the cores of a list come
+pub cores_kept : (cs cl : List CoreForm) → IsKept cl (with_cores cs cl)
+cores_kept [] cl = kept_self cl
+cores_kept (c ∷ cs) cl = kept_then cl (with_core c cl) (with_cores cs (with_core c cl)) (core_kept c cl) (cores_kept cs (with_core c cl))

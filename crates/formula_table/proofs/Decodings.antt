@@ -117,6 +117,20 @@ decoded_over_of cl done (s ∷ ss) t o =
 decoded_of : (ss : List Shape) → OperandsFirst 0 ss → AreOf (decoded ss) ss (decoded ss)
 decoded_of ss o = decoded_over_of [] [] ss tt o
 
+-- ---- formulas over a closure are of one list of shapes
+of_once : (cl : List CoreForm) → IsDistinct cl → (ss ts : List Shape) (cs : List CoreForm) → AreOf cl ss cs → AreOf cl ts cs → ss ≡ ts
+of_once cl o [] [] [] p q = refl
+of_once cl o (s ∷ ss) (t ∷ ts) (c ∷ cs) p q = ap₂ (λ x xs. x ∷ xs) (shape_once cl o s t p.1 q.1 (sym p.0 ∙ q.0)) (of_once cl o ss ts cs p.2 q.2)
+of_once cl o [] [] (c ∷ cs) p q = absurd p
+of_once cl o [] (t ∷ ts) [] p q = absurd q
+of_once cl o [] (t ∷ ts) (c ∷ cs) p q = absurd p
+of_once cl o (s ∷ ss) ts [] p q = absurd p
+of_once cl o (s ∷ ss) [] (c ∷ cs) p q = absurd q
+
+-- a closure is that of one list of shapes
+pub decoded_once : (ss ts : List Shape) → OperandsFirst 0 ss → OperandsFirst 0 ts → IsDistinct (decoded ss) → decoded ss ≡ decoded ts → ss ≡ ts
+decoded_once ss ts o u d e = of_once (decoded ss) d ss ts (decoded ss) (decoded_of ss o) (subst (λ cs. AreOf cs ts cs) (sym e) (decoded_of ts u))
+
 -- ---- the shape of a number
 shape_of_number : (cl : List CoreForm) (ss : List Shape) (cs : List CoreForm) → AreOf cl ss cs → (k : ℕ) → k < length ss → formula_of cl (slice_index_or ss k True) ≡ formula_at cs k
 shape_of_number cl [] cs t k l = absurd (omega arith)

@@ -5,3 +5,10 @@ pub mod Puts
 pub mod ShapeEquality
 pub mod Cores
 pub mod CoreLaws
+pub mod Closed
+pub mod CorePuts
+pub mod KnownNumbers
+pub mod StepLaws
+pub mod SumLaws
+pub mod Truncated
+pub mod OperatorLaws

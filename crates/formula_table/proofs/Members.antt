@@ -1,5 +1,5 @@
 -- Equal cores, and the members and numbers of a closure.
-use Rattle.std.proofs.Common.{◌≡◌, ◌↔◌, ℕ, zero, suc, ◌<◌, ◌⊎◌, Bool, true, false, List, [], ◌∷◌, ◌++◌, ◌||◌, ◌&&◌, ◌==◌, IsTrue, IsFalse, cond, refl, inl, inr, sym, ap, ap₂, subst, ◌∙◌, true≢false, length, arith}
+use Rattle.std.proofs.Common.{◌≡◌, ◌↔◌, ℕ, zero, suc, ◌<◌, Bool, true, false, List, [], ◌∷◌, ◌++◌, ◌==◌, IsTrue, IsFalse, refl, inl, inr, sym, ap, ap₂, subst, ◌∙◌, true≢false, length, arith}
 use Rattle.std.specs.Prelude.{Contains, slice_index_or}
 use Rattle.std.specs.List.{list_any}
 use Rattle.std.proofs.lemmas.Map.Views.{Contains-from_any}

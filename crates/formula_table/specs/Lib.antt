@@ -1,6 +1,9 @@
 pub mod Closures
+pub mod CorePuts
 pub mod Decoding
 pub mod Distinct
+pub mod KnownNumbers
 pub mod OneProof
 pub mod ShapeWords
+pub mod SmallLists
 pub mod Tables

@@ -45,7 +45,7 @@ pub struct Table {
 }
 
 impl Table {
-    ghost use Rattle.std.specs.Prelude.{◌<◌, ◌↔◌, [], IsTrue, IsFalse, IfOk, OnOk, OnErr, IsErrOf, Contains};
+    ghost use Rattle.std.specs.Prelude.{◌<◌, ◌↔◌, [], IsTrue, IsFalse, IfOk, OnOk, OnErr, IsErrOf, Contains, take};
     ghost use Rattle.bound_unfolding.specs.CoreView.{core_tree_of};
     ghost use Rattle.formula_table.specs.Closures.{formula_at, number_in, with_formula, with_core};
     ghost use Rattle.formula_table.specs.Decoding.{formula_of, OperandsBelow};
@@ -83,6 +83,25 @@ impl Table {
         ensures same { IsTrue result ↔ (formula_at (closure_in self.now) a.0 ≡ formula_at (closure_in self.now) b.0) }
     {
         a == b
+    }
+
+    /// Whether both tables have the same formulas, under the same numbers.
+    pub fn same(&self, other: &Table) -> bool
+        ensures { IsTrue result ↔ (closure_in self.now ≡ closure_in other.now) }
+    {
+        self.shapes.as_slice() == other.shapes.as_slice()
+    }
+
+    /// Forgets all formulas from a number on.
+    pub fn truncate(&mut self, len: u16)
+        ensures { closure_in self.new ≡ take len (closure_in self.old) }
+    {
+        self.shapes.truncate(len as usize);
+    }
+
+    /// Where the table lies.
+    pub(crate) fn allocator(&self) -> Global {
+        *self.shapes.allocator()
     }
 
     // Whether the formula of a shape is there, or there is room for it.

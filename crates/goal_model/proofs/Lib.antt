@@ -8,7 +8,7 @@ pub mod DraftModels
 pub mod Making
 pub mod Cycles
 pub mod Finishing
-pub mod CountedDemands
+pub mod MeasuredDemands
 pub mod Resolving
 pub mod Adding
 pub mod TraceParts

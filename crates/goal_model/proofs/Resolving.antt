@@ -13,7 +13,7 @@ use Rattle.goal_model.specs.Models.{ModelForm}
 use Rattle.goal_model.specs.Resolution.{taken, Makes, at_end, goes_on, no_model, finished, IsResolved, IsModel, is_built, RefusesFrom, a_form, a_statement, a_later_one, RefusesModel, the_walk, a_large_demand}
 use Rattle.goal_model.specs.Demands.{IsAnswerable}
 use Rattle.goal_model.specs.Judging.{IsDraft, Judges}
-use Rattle.goal_model.proofs.CountedDemands.{All_at_split}
+use Rattle.goal_model.proofs.MeasuredDemands.{All_at_split}
 use Rattle.goal_model.proofs.DraftModels.{no_model_draft, taken_draft}
 use Rattle.goal_model.proofs.Making.{made_first, makes_once, taken_first}
 

@@ -1,7 +1,7 @@
 -- The demand of each refinement: the list of formulas that no trace is to meet, and how large it may be.
 use Rattle.std.specs.Prelude.{ℕ, List, [], ◌∷◌, ◌++◌, map, slice_index_or}
 use Rattle.temporal_logic.specs.Ltl.{Ltl, truth, neg}
-use Rattle.bound_unfolding.specs.Totals.{AreSmall}
+use Rattle.formula_table.specs.SmallLists.{AreSmall}
 use Rattle.goal_model.specs.Models.{LinkForm, ModelForm, sizes_of}
 
 -- the formula of a goal, by its place

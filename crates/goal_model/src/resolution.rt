@@ -364,7 +364,7 @@ fn walk(alloc: Global, raw: &RawModel) -> Result<Model, ModelRefusal>
 /// The model of a list of statements, of which there are fewer than 2^32. `NotBuilt` and `Unresolved` name the first statement that
 /// can't be taken: one whose form is not built yet, or one that can't be resolved. Where all are taken, `Unresolved` names the first
 /// refinement whose complete demand is too large: where the positive cores of all domain properties, the subgoals and the negated
-/// parent have over 4,096 nodes in all, or one of them has over 1,000 levels.
+/// parent have over 4,096 distinct subformulas together, or one of them has over 1,000 levels.
 pub fn resolve(alloc: Global, raw: &RawModel) -> Result<Model, ModelRefusal>
     requires few { vec_len raw.now.statements < 2 ^ 32 }
     ensures made { IfOk result (λ m. IsModel (statements_of raw.now) (model_of m)) }
@@ -373,7 +373,7 @@ pub fn resolve(alloc: Global, raw: &RawModel) -> Result<Model, ModelRefusal>
     ensures well_formed { IfOk result (λ m. IsWellFormed (model_of m)) }
 {
     let model = walk(alloc, raw)?;
-    if let Some(statement) = first_large(&model) {
+    if let Some(statement) = first_large(alloc, &model)? {
         return Err(ModelRefusal::Unresolved(statement));
     }
     Ok(model)

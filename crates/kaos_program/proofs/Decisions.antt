@@ -12,7 +12,7 @@ use Rattle.temporal_logic.specs.Trees.{tree_of}
 use Rattle.temporal_logic.specs.Lassos.{trace_of}
 use Rattle.temporal_logic.proofs.Fitting.{lasso_is_periodic}
 use Rattle.bound_unfolding.specs.CoreForm.{CoreForm}
-use Rattle.bound_unfolding.specs.Totals.{cores_of}
+use Rattle.bound_unfolding.specs.CoreLists.{cores_of}
 use Rattle.tableau_rules.specs.declared.certificate.Cert.{Cert}
 use Rattle.tableau_rules.specs.declared.answer.Answer.{Answer}
 use Rattle.tableau_rules.specs.declared.answer.Answer.TheVariants.{Empty, Found, Withheld}

@@ -13,7 +13,7 @@ use Rattle.kaos_program.specs.declared.report.Report.{Report}
 use Rattle.goal_model.specs.Models.{LinkForm, ModelForm, sizes_of}
 use Rattle.goal_model.specs.Demands.{complete_list}
 use Rattle.bound_unfolding.specs.CoreForm.{CoreForm}
-use Rattle.bound_unfolding.specs.Totals.{cores_of}
+use Rattle.bound_unfolding.specs.CoreLists.{cores_of}
 use Rattle.tableau_rules.specs.Certificates.{IsValid}
 use Rattle.tableau_rules.specs.CertView.{cert_of}
 use Rattle.tableau_rules.specs.Graphs.{IsWithin, IsLarger}

@@ -5,7 +5,7 @@ ghost use Rattle.state_space.specs.Spaces.{ranges, sizes};
 ghost use Rattle.temporal_logic.specs.Fits.{Fits};
 ghost use Rattle.temporal_logic.specs.Ltl.{neg};
 ghost use Rattle.temporal_logic.specs.Trees.{tree_of};
-ghost use Rattle.bound_unfolding.specs.Totals.{AreSmall};
+ghost use Rattle.formula_table.specs.SmallLists.{AreSmall};
 ghost use Rattle.goal_model.specs.Demands.{goal_formula, complete_list as complete_list_of, IsAnswerable};
 ghost use Rattle.goal_model.specs.Models.{model_of, link_of, IsWellFormed};
 ghost use Rattle.kaos_program.specs.Reports.{IsRight, IsEntry, Reports, goal_name};

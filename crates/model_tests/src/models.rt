@@ -84,16 +84,21 @@ using, of unknown goals | refine g by h using milestone; goal g: b; | NotBuilt(2
 65 variables | [65 var x#: bool;] | Unresolved(66)
 64 names | var m: { [63 x#, ]x63 }; | made
 65 names | var m: { [64 x#, ]x64 }; | Unresolved(2)
-# A demand has at most 4,096 nodes.
-30601 nodes in a subgoal | var p: bool; goal g: always p; goal h: eventually within 100 eventually within 100 p; refine g by h; | Unresolved(5)
-a domain property over 4096 nodes | var p: bool; goal g: always p; goal h: eventually within 34 eventually within 38 p; refine g by h; domain d: p; | Unresolved(5)
-a subgoal over 4096 nodes | var p: bool; goal g: always p; goal h: eventually within 34 eventually within 38 p; goal i: p; refine g by h, i; | Unresolved(6)
-the negated parent over 4096 nodes | var p: bool; var n: 0..1; var k: 0..1; goal g: n < k; goal h: eventually within 34 eventually within 38 p; refine g by h; | Unresolved(7)
-the first of two, behind a small one | var p: bool; goal g: p; goal h: eventually within 100 eventually within 100 p; goal i: p; refine g by i; refine g by h; refine i by h; | Unresolved(7)
-a later statement that is not taken | var p: bool; goal g: p; goal h: eventually within 100 eventually within 100 p; refine g by h; goal i: q; | Unresolved(6)
-a large goal that is not refined | var p: bool; goal h: eventually within 100 eventually within 100 p; | made
-4096 nodes | var p: bool; goal g: always p; goal h: eventually within 34 eventually within 38 p; refine g by h; | made
-4096 nodes by the negated parent | var p: bool; var n: 0..1; var k: 0..1; goal g: n >= k; goal h: eventually within 34 eventually within 38 p; refine g by h; | made";
+# A demand has at most 4,096 distinct subformulas: here 4,093 by the subgoal, and 3 by the negated parent.
+4096 formulas | [7 var x#: bool;] goal g: always x6; goal h: [4 always within 100 ]x0 and [4 always within 100 ]x1 and [4 always within 100 ]x2 and [4 always within 100 ]x3 and [4 always within 100 ]x4 and always within 41 x5; refine g by h; | made
+one of them a domain property too | [7 var x#: bool;] domain d: always within 41 x5; goal g: always x6; goal h: [4 always within 100 ]x0 and [4 always within 100 ]x1 and [4 always within 100 ]x2 and [4 always within 100 ]x3 and [4 always within 100 ]x4 and always within 41 x5; refine g by h; | made
+a domain property over 4096 formulas | [7 var x#: bool;] goal g: always x6; goal h: [4 always within 100 ]x0 and [4 always within 100 ]x1 and [4 always within 100 ]x2 and [4 always within 100 ]x3 and [4 always within 100 ]x4 and always within 41 x5; refine g by h; domain d: x6; | Unresolved(11)
+a subgoal over 4096 formulas | [7 var x#: bool;] goal g: always x6; goal h: [4 always within 100 ]x0 and [4 always within 100 ]x1 and [4 always within 100 ]x2 and [4 always within 100 ]x3 and [4 always within 100 ]x4 and always within 41 x5; goal i: x6; refine g by h, i; | Unresolved(12)
+the negated parent over 4096 formulas | [7 var x#: bool;] goal g: always next x6; goal h: [4 always within 100 ]x0 and [4 always within 100 ]x1 and [4 always within 100 ]x2 and [4 always within 100 ]x3 and [4 always within 100 ]x4 and always within 41 x5; refine g by h; | Unresolved(11)
+the first of two, behind a small one | [7 var x#: bool;] goal g: always x6; goal h: next ([4 always within 100 ]x0 and [4 always within 100 ]x1 and [4 always within 100 ]x2 and [4 always within 100 ]x3 and [4 always within 100 ]x4 and always within 41 x5); goal i: x6; refine g by i; refine g by h; refine i by h; | Unresolved(13)
+a later statement that is not taken | [7 var x#: bool;] goal g: always x6; goal h: next ([4 always within 100 ]x0 and [4 always within 100 ]x1 and [4 always within 100 ]x2 and [4 always within 100 ]x3 and [4 always within 100 ]x4 and always within 41 x5); refine g by h; goal i: q; | Unresolved(12)
+a large goal that is not refined | [7 var x#: bool;] goal h: next ([4 always within 100 ]x0 and [4 always within 100 ]x1 and [4 always within 100 ]x2 and [4 always within 100 ]x3 and [4 always within 100 ]x4 and always within 41 x5); | made
+401 formulas of 30601 nodes | var p: bool; goal g: always p; goal h: eventually within 100 eventually within 100 p; refine g by h; | made
+60 iffs in each other | var p: bool; goal g: p; goal h: [60 p iff (]p[60 )]; refine g by h; | made
+# Each core has at most 1,000 levels.
+1000 levels | var p: bool; goal g: p; goal h: next [4 always within 100 ]always within 99 p; refine g by h; | made
+1001 levels | var p: bool; goal g: p; goal h: next next [4 always within 100 ]always within 99 p; refine g by h; | Unresolved(5)
+1001 levels of the negated parent | var p: bool; goal g: next next [4 always within 100 ]always within 99 p; goal h: p; refine g by h; | Unresolved(5)";
 
 fn outcome(alloc: Global, refusal: Option<ModelRefusal>) -> Result<String, AllocError> {
     match refusal {

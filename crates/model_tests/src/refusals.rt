@@ -58,7 +58,7 @@ a subgoal twice | refine P by Q, Q; | refused: statement 5: Unresolved
 a cycle of one | refine P by P; | refused: statement 5: Unresolved
 a cycle of two | refine P by Q; refine Q by P; | refused: statement 6: Unresolved
 65 values | var x: 0..64; | refused: statement 5: Unresolved
-a demand that is too large | goal R: eventually within 100 eventually within 100 a; refine P by Q; refine R by Q; | refused: statement 7: Unresolved
+a demand that is too large | goal R: next next [4 always within 100 ]always within 99 a; refine P by Q; refine R by Q; | refused: statement 7: Unresolved
 a trace named as a goal | trace P: loop {}; | refused: statement 5: Unresolved";
 
 const NOT_BUILT: &str = "\

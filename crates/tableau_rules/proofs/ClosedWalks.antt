@@ -16,7 +16,7 @@ use Rattle.tableau_rules.specs.Walks.{no_node, node_at, Settles, least_index, st
 use Rattle.formula_table.proofs.Tests.{cond_case}
 use Rattle.tableau_rules.proofs.Lists.{AnyOf, FirstOf, some_source, some_const}
 use Rattle.tableau_rules.proofs.NumberSets.{has_first_best, has_with}
-use Rattle.tableau_rules.proofs.IndexSets.{LieIn, lie_of_met_all, length-met_with, length-met_with_all}
+use Rattle.tableau_rules.proofs.IndexSets.{LieIn, lie_of_met_all, length-met_with_all}
 use Rattle.tableau_rules.proofs.RuleParts.{no_step, LiteralBelow, IsClosed}
 use Rattle.tableau_rules.proofs.KidMeetings.{mk}
 use Rattle.tableau_rules.proofs.NodeRules.{kids_by_changes}

@@ -1,5 +1,5 @@
 -- The closure of a query: operands of its formulas are in it, no formula stands in it twice, and its formulas are over the query's variables.
-use Rattle.std.proofs.Common.{◌≡◌, ◌<◌, arith, ℕ, zero, suc, Bool, true, false, List, [], ◌∷◌, ◌++◌, ◌==◌, IsTrue, cond, refl, inl, inr, sym, ap, ap₂, subst, ◌∙◌, true≢false, length}
+use Rattle.std.proofs.Common.{◌≡◌, ◌<◌, arith, ℕ, zero, suc, Bool, true, false, List, [], ◌∷◌, ◌++◌, IsTrue, cond, refl, inl, inr, sym, ap, subst, ◌∙◌, true≢false, length}
 use Rattle.std.specs.List.{list_any, AllByRecursion as Each}
 use Rattle.bound_unfolding.specs.CoreForm.{CoreForm, core_true, core_false, lit, both, either, after, core_until, core_release}
 use Rattle.formula_table.specs.Closures.{is_same, formula_at, number_in, with_formula, with_core, with_cores, closure_of, operands}
@@ -7,7 +7,7 @@ use Rattle.formula_table.specs.Distinct.{IsMember, IsDistinct}
 use Rattle.formula_table.proofs.Members.{same_eq, same_self, distinct_last}
 use Rattle.tableau_rules.specs.Certificates.{is_until}
 use Rattle.tableau_rules.specs.Queries.{IsOver}
-use Rattle.formula_table.proofs.Tests.{cond_case, or_left, or_right, or_true, and_intro, and_true, eq_of, eq_self}
+use Rattle.formula_table.proofs.Tests.{cond_case, or_left, or_right, or_true}
 use Rattle.tableau_rules.proofs.Lists.{each_map}
 use Rattle.tableau_rules.proofs.RuleParts.{LiteralBelow, IsKnown, IsClosed}
 

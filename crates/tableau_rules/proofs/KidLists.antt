@@ -12,7 +12,7 @@ use Rattle.tableau_rules.specs.Sets.{with_number, without_number}
 use Rattle.tableau_rules.specs.Turns.{change_of, rule_in, effects_of, EffectBelow, TurnBelow}
 use Rattle.tableau_rules.specs.Nodes.{NodeForm, chosen, node_rule, kid, stepped, kids_by, kids}
 use Rattle.tableau_rules.specs.KidsView.{kid_by, count_of}
-use Rattle.formula_table.proofs.Tests.{cond_case, or_left, or_right}
+use Rattle.formula_table.proofs.Tests.{cond_case}
 use Rattle.tableau_rules.proofs.KidMeetings.{mk}
 
 -- ---- a formula has the number at which it stands

@@ -1,7 +1,7 @@
 -- The bits of one word: which numbers they stand for, and what cutting off the low ones or writing one leaves.
 use Rattle.std.specs.Int.{bit_at, trailing_zeros, w64, bit_not}
 use Rattle.std.specs.Int.RustNames.{bit_or}
-use Rattle.std.proofs.Common.{bit_and, ◌≡◌, ◌≢◌, ℕ, ◌+◌, ◌-◌, ◌*◌, ◌/◌, ◌%◌, ◌^◌, ◌<◌, ◌≤◌, false, List, ◌==◌, ◌||◌, ◌&&◌, not, get_or, min, inl, inr, sym, ap, ap₂, ◌∙◌, arith}
+use Rattle.std.proofs.Common.{bit_and, ◌≡◌, ◌≢◌, ℕ, ◌+◌, ◌-◌, ◌*◌, ◌/◌, ◌%◌, ◌^◌, ◌<◌, ◌≤◌, List, ◌==◌, ◌||◌, ◌&&◌, not, get_or, min, inl, inr, sym, ap, ap₂, ◌∙◌, arith}
 use Rattle.std.proofs.lemmas.Bool.{cases_lt, cases_eq, ne_eqb}
 use Rattle.std.proofs.lemmas.Nat.Bits.{bit_at_and, bit_at_above, bit_at_mask_inside, bit_at_mask_below, bit_at-zero, bit_at_set_same, bit_at_set_other, bit_at_clear_same, bit_at_clear_other, bit_at-trailing_zeros, bit_at-lt}
 use Rattle.tableau_rules.specs.Words.{has_bit}

@@ -1,5 +1,5 @@
 -- Tests of places, and how many places are without a level.
-use Rattle.std.proofs.Common.{◌≡◌, ℕ, zero, suc, ◌+◌, ◌<◌, ◌≤◌, ◌⊎◌, List, [], ◌∷◌, length, get_or, set, Bool, true, false, refl, sym, ap, subst, ◌∙◌, inl, inr, arith, ◌&&◌, ◌||◌, nat_lt, rules, replicate}
+use Rattle.std.proofs.Common.{◌≡◌, ℕ, zero, suc, ◌+◌, ◌<◌, ◌≤◌, ◌⊎◌, List, [], ◌∷◌, length, get_or, set, Bool, true, false, refl, sym, ap, subst, ◌∙◌, inl, inr, arith, ◌||◌, nat_lt, rules, replicate}
 use Rattle.std.specs.List.{AllByRecursion as Each}
 use Rattle.tableau_rules.specs.Links.{Among, IsHead}
 use Rattle.tableau_rules.specs.Levels.{head_is, some_is, free}

@@ -21,7 +21,7 @@ use Rattle.tableau_rules.proofs.NumberSets.{each_has, each_without, each_with_co
 use Rattle.tableau_rules.proofs.Ascending.{IsAscending, ascending_with, ascending_without, increasing}
 use Rattle.tableau_rules.proofs.RuleParts.{no_step, rule_parts}
 use Rattle.tableau_rules.proofs.NodeRules.{kids_by_changes}
-use Rattle.tableau_rules.proofs.IndexSets.{length-met_with, length-full_of, length-met_with_all}
+use Rattle.tableau_rules.proofs.IndexSets.{length-full_of, length-met_with_all}
 use Rattle.tableau_rules.proofs.Closing.{closure_grows}
 
 -- ---- the sets

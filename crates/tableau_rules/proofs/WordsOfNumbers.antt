@@ -1,11 +1,9 @@
 -- Trimmed words are the words of their numbers, so what is said of them is said of the numbers.
-use Rattle.std.specs.Int.{bit_at, w64}
 use Rattle.std.specs.Int.RustNames.{bit_or}
-use Rattle.std.proofs.Common.{◌≡◌, ◌≢◌, ℕ, zero, suc, ◌+◌, ◌-◌, ◌*◌, ◌/◌, ◌%◌, ◌^◌, ◌<◌, ◌≤◌, List, [], ◌∷◌, ◌==◌, ◌||◌, length, get_or, refl, inl, inr, sym, ap, ap₂, ◌∙◌, subst, arith}
+use Rattle.std.proofs.Common.{◌≡◌, ◌≢◌, ℕ, zero, suc, ◌-◌, ◌/◌, ◌%◌, ◌^◌, ◌<◌, ◌≤◌, List, [], ◌∷◌, ◌==◌, ◌||◌, length, get_or, refl, inl, inr, sym, ap, ap₂, ◌∙◌, subst, arith}
 use Rattle.std.proofs.lemmas.Bool.{cases_lt, cases_eq, ne_eqb}
 use Rattle.std.proofs.lemmas.Nat.{or_disjoint, or_lt, one_shl, le_or_r, pow_pos}
 use Rattle.std.proofs.lemmas.Nat.Bits.{bit_at-zero}
-use Rattle.std.proofs.lemmas.List.{get_or_past}
 use Rattle.tableau_rules.specs.Sets.{has_number}
 use Rattle.tableau_rules.specs.Words.{has_bit, numbers_of, IsTrimmed, with_bit, words_of}
 use Rattle.tableau_rules.proofs.OneWord.{bit_eq, with_bit as word_with_bit}

@@ -10,6 +10,8 @@ pub mod Certificates
 pub mod Queries
 pub mod Walks
 pub mod SameCores
+pub mod NumberedCores
+pub mod BegunQueries
 pub mod QueryView
 pub mod NodeView
 pub mod KidsView

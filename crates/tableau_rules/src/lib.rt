@@ -4,6 +4,7 @@
 #![tactic(auto)]
 
 mod answer;
+mod begun;
 mod bits;
 mod certificate;
 mod edges;

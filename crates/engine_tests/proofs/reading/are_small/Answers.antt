@@ -1,12 +1,24 @@
-use Rattle.std.proofs.Common.{◌≡◌, ◌+◌, ◌≤◌, arith}
+use Rattle.std.proofs.Common.{◌≤◌, List, length, map, true, subst, arith}
+use Rattle.std.specs.Prelude.{All, min}
+use Rattle.std.proofs.lemmas.Bool.{leb-true}
+use Rattle.std.proofs.lemmas.List.{take_all}
 use Rattle.state_space.specs.Spaces.{sizes}
-use Rattle.engine_tests.proofs.SmallLists.{counted_more}
+use Rattle.temporal_logic.specs.declared.formula.Formula.{Formula}
+use Rattle.temporal_logic.specs.Trees.{tree_of}
+use Rattle.bound_unfolding.specs.CoreForm.{levels}
+use Rattle.bound_unfolding.specs.CoreTree.{core_tree}
+use Rattle.engine_tests.proofs.SmallLists.{shallow_more}
 use Rattle.engine_tests.proofs.reading.are_small.Goals as goal
 
 pub formulas-preserved : goal.formulas-preserved
 formulas-preserved c =
-    let few : c.saturating_add-nodes.result ≤ 4096 = omega (arith, c.if-nodes-gt4096.false) in
     let low : c.core_depth.result ≤ 1000 = omega (arith, c.if-core_depth-gt1000.false) in
-    let sum : c.saturating_add-nodes.result ≡ c.core_size.result + c.formulas.nodes = omega (arith, few, c.saturating_add-nodes.ensures) in
-    counted_more (sizes c.args.space.now) c.args.list.now c.formulas.formula-index c.formula-item.result c.formulas.nodes c.core_size.result c.core_depth.result c.saturating_add-nodes.result c.formulas-test.true c.formula-item.is
-    c.core_size.ensures.size c.core_depth.ensures.depth sum few low c.formulas.invariant
+    shallow_more (sizes c.args.space.now) c.args.list.now c.formulas.formula-index c.formula-item.result c.core_depth.result c.formulas-test.true c.formula-item.is c.core_depth.ensures.depth low c.formulas.invariant
+
+pub returns : goal.returns
+returns c yes =
+    let few : c.distinct_size.result ≤ 4096 = omega (arith, leb-true _ 4096 yes) in
+    record {
+      formulas = omega (arith, few, c.in_ok-distinct_size.ensures);
+      levels = subst (λ (fs : List Formula). All (λ f. levels (core_tree (sizes c.args.space.now) true f) ≤ 1000) (map tree_of fs)) (take_all c.formulas.formula-index c.args.list.now c.formulas-test.false) c.formulas.invariant;
+    }

@@ -1,8 +1,7 @@
-use Rattle.std.proofs.Common.{◌∙◌}
 use Rattle.std.proofs.lemmas.Result.{IfOk-weaker}
 use Rattle.tableau_rules.specs.QueryView.{cores_in}
 use Rattle.entailment.proofs.Queries.{over_of_list}
 use Rattle.entailment.proofs.query.query_of.Goals as goal
 
 pub returns-clause-over : goal.returns-clause-over
-returns-clause-over c = IfOk-weaker c.new.result _ _ (λ q e. over_of_list c.args.space.now c.args.list.now (cores_in q) c.requires.fit (e ∙ c.in_ok-cores.ensures.cores)) c.new.ensures.cores
+returns-clause-over c = IfOk-weaker c.of_formulas.result _ _ (λ q. over_of_list c.args.space.now c.args.list.now (cores_in q) c.requires.fit) c.of_formulas.ensures.cores

@@ -3,7 +3,7 @@ use Rattle.std.proofs.lemmas.List.{length-map}
 use Rattle.state_space.specs.Spaces.{ranges}
 use Rattle.temporal_logic.specs.Fits.{Fits}
 use Rattle.goal_model.specs.Models.{NamedFormula, goal_of}
-use Rattle.goal_model.proofs.CountedDemands.{formula_at}
+use Rattle.goal_model.proofs.MeasuredDemands.{formula_at}
 use Rattle.goal_model.proofs.TraceParts.{viewed_at}
 use Rattle.goal_model.proofs.demand_size.goal_formula.Goals as goal
 

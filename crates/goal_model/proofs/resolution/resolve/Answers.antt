@@ -1,9 +1,11 @@
-use Rattle.std.proofs.Common.{◌≡◌, ◌⊎◌, ℕ, List, inl, inr, Result, Ok, Err, sym, subst}
-use Rattle.std.specs.Prelude.{IsErrAnd, IfErr}
+use Rattle.std.proofs.Common.{◌≡◌, ◌⊎◌, ℕ, List, inl, inr, Option, Result, Ok, Err, sym, subst}
+use Rattle.std.specs.Prelude.{All, IsErrAnd, IfErr, MatchOption}
 use Rattle.model_text.specs.Statements.{StatementForm, statements_of}
 use Rattle.goal_model.specs.declared.resolution.ModelRefusal.{ModelRefusal}
 use Rattle.goal_model.specs.declared.resolution.ModelRefusal.TheVariants.{Memory, Unresolved}
 use Rattle.goal_model.specs.Models.{model_of}
+use Rattle.goal_model.specs.Demands.{IsAnswerable}
+use Rattle.goal_model.specs.LargeDemands.{IsFirstLarge}
 use Rattle.goal_model.specs.Resolution.{no_model, RefusesFrom, RefusesModel, the_walk, a_large_demand}
 use Rattle.goal_model.proofs.resolution.resolve.Goals as goal
 
@@ -25,7 +27,7 @@ pub returns-in-Some-clause-refused : goal.returns-in-Some-clause-refused
 returns-in-Some-clause-refused c =
     let ss = statements_of c.args.raw.now in
     let m = model_of c.in_ok-model.model in
-    let first = c.in-Some.ensures in
+    let first : IsFirstLarge m c.in-Some.statement = subst (λ (o : Option ℕ). MatchOption o (All (IsAnswerable m) m.links) (IsFirstLarge m)) c.in-Some.is c.in_ok-statement.ensures in
     inr (subst (λ (n : ℕ). RefusesModel ss (Unresolved n)) (sym first.number) (a_large_demand m first.front first.back first.link c.in_ok-model.ensures.made first.split first.before first.large))
 
 pub returns-clause-only : goal.returns-clause-only

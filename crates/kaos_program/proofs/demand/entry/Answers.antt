@@ -1,7 +1,7 @@
 use Rattle.std.proofs.Common.{◌≡◌, ℕ, List, map, sym, ap, ◌∙◌, subst}
 use Rattle.temporal_logic.specs.Ltl.{Ltl}
 use Rattle.temporal_logic.specs.Trees.{tree_of}
-use Rattle.bound_unfolding.specs.Totals.{AreSmall}
+use Rattle.formula_table.specs.SmallLists.{AreSmall}
 use Rattle.goal_model.specs.Demands.{complete_list}
 use Rattle.goal_model.specs.Models.{model_of, link_of, sizes_of}
 use Rattle.kaos_program.proofs.ModelParts.{sizes_same}

@@ -1,4 +1,4 @@
-use Rattle.std.proofs.Common.{refl, arith, ◌∙◌}
+use Rattle.std.proofs.Common.{refl}
 use Rattle.tableau_rules.proofs.CommonNumbers.{both_some, both_none, both_at}
 use Rattle.tableau_rules.proofs.bits.least_of_both.Goals as goal
 

@@ -1,7 +1,7 @@
-use Rattle.std.proofs.Common.{◌≡◌, ◌<◌, Some, None, List, ℕ, sym, ap, ◌∙◌, length}
+use Rattle.std.proofs.Common.{sym, ap, ◌∙◌}
 use Rattle.formula_table.specs.Tables.{closure_in}
 use Rattle.tableau_rules.specs.Sets.{first_in}
-use Rattle.tableau_rules.proofs.ClassSets.{chosen_first, chosen_second, chosen_third, first_below, none_left}
+use Rattle.tableau_rules.proofs.ClassSets.{chosen_first, chosen_second, chosen_third, first_below}
 use Rattle.tableau_rules.proofs.node.chosen.Goals as goal
 
 pub returns-in-Some : goal.returns-in-Some

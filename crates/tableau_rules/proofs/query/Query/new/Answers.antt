@@ -1,20 +1,13 @@
-use Rattle.std.proofs.Common.{ap, subst, sym, ◌∙◌, ◌≤◌, List, [], map, length, arith}
+use Rattle.std.proofs.Common.{ap, subst, sym, ◌∙◌, ◌≤◌, List, map, length}
 use Rattle.bound_unfolding.specs.declared.core_form.Core.{Core}
 use Rattle.bound_unfolding.specs.CoreView.{core_tree_of}
 use Rattle.formula_table.specs.Closures.{closure_of}
 use Rattle.formula_table.specs.Tables.{closure_in}
-use Rattle.tableau_rules.specs.Nodes.{with_numbers_of}
-use Rattle.tableau_rules.proofs.QueryClosures.{are_same_of, closure_size}
+use Rattle.tableau_rules.proofs.QueryClosures.{room_for}
 use Rattle.tableau_rules.proofs.query.Query.new.Goals as goal
 
-pub closure_and_numbers-requires : goal.closure_and_numbers-requires
-closure_and_numbers-requires c =
-    let size = closure_size (map core_tree_of c.args.cores.items) in
-    subst (λ (xs : List Core). length (closure_of (map core_tree_of xs)) ≤ 4096) (sym c.deref.ensures.value) (omega (arith, size, c.requires))
-
-pub invariant_of-result-clause-closed : goal.invariant_of-result-clause-closed
-invariant_of-result-clause-closed c = are_same_of _ _ (ap closure_in c.in_ok-formulas.ensures ∙ c.in_ok-table.ensures.closure ∙ ap (λ (xs : List Core). closure_of (map core_tree_of xs)) c.deref.ensures.value)
-
-pub invariant_of-result-clause-started : goal.invariant_of-result-clause-started
-invariant_of-result-clause-started c =
-    c.in_ok-table.ensures.numbers ∙ ap (λ (xs : List Core). with_numbers_of (closure_of (map core_tree_of xs)) (map core_tree_of xs) []) c.deref.ensures.value
+pub add-requires-clause-room : goal.add-requires-clause-room
+add-requires-clause-room c =
+    let few = subst (λ (xs : List Core). length (closure_of (map core_tree_of xs)) ≤ 4096) (sym c.deref-core-items.ensures.value) c.requires in
+    room_for core_tree_of c.deref-core-items.result.now c.cores.core-index c.core-item.result c.cores-test.true c.core-item.is (closure_in c.cores.begun.table)
+    (c.cores.invariant.begun.closed ∙ ap closure_of c.cores.invariant.so_far) 4096 few
