@@ -204,13 +204,20 @@ fn statements(rt: HostRuntime) -> Result<(), Fail> {
 fn read_cut(rt: &impl Abort, alloc: Global, version: &str, statement: &str) -> Result<(), Fail> {
     let text = format!(in alloc; "{version} {statement}")?;
     for token in lex(alloc, text.as_bytes())? {
-        let front = text.get(..token.at).ok_or("a token outside its text")?.trim_end();
+        let front = text
+            .get(..token.at)
+            .ok_or("a token outside its text")?
+            .trim_end();
         let refusal = if front.ends_with(';') {
             None
         } else {
             Some(TextRefusal::Syntax(front.len() as u64))
         };
-        assert_eq!(rt; read_model(alloc, front.as_bytes()).err(), refusal, "{front}");
+        assert_eq!(rt;
+            read_model(alloc, front.as_bytes()).err(),
+            refusal,
+            "{front}"
+        );
     }
     Ok(())
 }
