@@ -5,7 +5,7 @@ ghost use Rattle.state_space.specs.Spaces.{sizes};
 ghost use Rattle.tableau_rules.specs.Queries.{IsOver};
 ghost use Rattle.tableau_rules.specs.QueryView.{cores_in};
 
-use crate::reading::{asked, cut_twice};
+use crate::reading::{asked, cut_twice, space};
 use cert_checker::check;
 use entailment::Engine;
 use state_space::{Space, State};
@@ -145,7 +145,7 @@ fn compare_row(rt: &impl Abort, alloc: Global, row: &str) -> Result<(), Fail> {
     let (goals, budget, expected) = cut_twice(row)?;
     let budget = budget.parse::<u32>()?;
     let (model, query) = asked(rt, alloc, VARIABLES, goals)?;
-    compare(rt, alloc, &model.space, &query, budget, expected)
+    compare(rt, alloc, space(&model), &query, budget, expected)
 }
 
 #[test]

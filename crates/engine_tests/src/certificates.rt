@@ -1,7 +1,7 @@
 //! Texts of certificates that are read and written again, texts that are none, and what the check
 //! says of certificates: a good one, and one or more that are bad for each cause.
 
-use crate::reading::{asked, cut, model};
+use crate::reading::{asked, cut, model, space};
 use cert_checker::{BadMark, check, check_range};
 use elimination_cert::{CertRefusal, cert_text, read_cert};
 use state_space::{Space, Values};
@@ -149,7 +149,7 @@ fn compare_readings(rt: &impl Abort, alloc: Global, space: &Space) -> Result<(),
 #[test]
 fn texts(rt: HostRuntime) -> Result<(), Fail> {
     let model = model(&rt, rt.alloc(), VARIABLES, "")?;
-    compare_readings(&rt, rt.alloc(), &model.space)
+    compare_readings(&rt, rt.alloc(), space(&model))
 }
 
 // Compares what a check says: that a certificate passes, or the first bad node with its first cause.
@@ -207,7 +207,7 @@ fn compare_checks(
     table: &str,
 ) -> Result<(), Fail> {
     let (model, query) = asked(rt, alloc, VARIABLES, goals)?;
-    compare_rows(rt, alloc, &model.space, &query, nodes, table)
+    compare_rows(rt, alloc, space(&model), &query, nodes, table)
 }
 
 #[test]
@@ -276,5 +276,5 @@ fn try_ranges(rt: &impl Abort, alloc: Global, space: &Space, query: &Query) -> R
 #[test]
 fn ranges(rt: HostRuntime) -> Result<(), Fail> {
     let (model, query) = asked(&rt, rt.alloc(), VARIABLES, CONTRADICTION)?;
-    try_ranges(&rt, rt.alloc(), &model.space, &query)
+    try_ranges(&rt, rt.alloc(), space(&model), &query)
 }

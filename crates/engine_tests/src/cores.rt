@@ -5,9 +5,9 @@ ghost use Rattle.temporal_logic.specs.Fits.{Fits};
 ghost use Rattle.temporal_logic.specs.Trees.{tree_of};
 ghost use Rattle.bound_unfolding.specs.CoreTexts.{CoreFits};
 ghost use Rattle.bound_unfolding.specs.CoreView.{core_tree_of};
-ghost use Rattle.goal_model.specs.Models.{model_of, IsWellFormed};
+ghost use Rattle.goal_model.specs.ModelViews.{model_of};
 
-use crate::reading::{core, cut_twice, goal, model};
+use crate::reading::{core, cut_twice, goal, model, space};
 use bound_unfolding::{Core, core_depth, core_size, core_text};
 use goal_model::Model;
 use source_sink::Memory;
@@ -128,12 +128,17 @@ fn compare(
     model: &Model,
     positive: bool,
     expected: &str,
-) -> Result<(), Fail>
-    requires well_formed { IsWellFormed (model_of model.now) }
-{
-    assert!(rt; model.goals.len() == 1);
+) -> Result<(), Fail> {
+    assert!(rt; model.goals().len() == 1);
     let is_short = !expected.ends_with("..");
-    let text = shown(rt, alloc, &model.space, goal(model, 0), positive, is_short)?;
+    let text = shown(
+        rt,
+        alloc,
+        space(model),
+        goal(rt, model, 0),
+        positive,
+        is_short,
+    )?;
     assert!(rt; text.as_slice() == expected.as_bytes(), "{expected}");
     Ok(())
 }

@@ -2,14 +2,15 @@
 //! in a loop of one state, without a prefix, and between two words of a row.
 
 ghost use Rattle.std.specs.Prelude.{◌≤◌, ◌↔◌, All, IfOk, IsTrue};
-ghost use Rattle.state_space.specs.Spaces.{ranges, sizes};
+ghost use Rattle.state_space.specs.Spaces.{sizes};
 ghost use Rattle.temporal_logic.specs.Fits.{Fits};
 ghost use Rattle.temporal_logic.specs.Lassos.{IsOfSpace};
 ghost use Rattle.temporal_logic.specs.Trees.{tree_of};
-ghost use Rattle.goal_model.specs.Models.{model_of, IsWellFormed};
+ghost use Rattle.goal_model.specs.Models.{sizes_of};
+ghost use Rattle.goal_model.specs.ModelViews.{model_of};
 ghost use Rattle.lasso_checker.specs.Scratch.{scratch_of};
 
-use crate::reading::{cut_twice, formulas, goal, model};
+use crate::reading::{cut_twice, formulas, goal, model, space};
 use goal_model::Model;
 use lasso_checker::{first_false, scratch_len, truth_at_start};
 use source_sink::Memory;
@@ -200,30 +201,27 @@ fn is_enough(lasso: &Lasso, list: &[Formula], words: u64) -> bool
 
 // The only lasso of a model.
 fn lasso_of<'a>(rt: &impl Abort, model: &'a Model) -> &'a Lasso
-    ensures of_space { IsOfSpace (sizes model.now.space) result.now }
+    ensures of_space { IsOfSpace (sizes_of (model_of model.now)) result.now }
 {
-    assert!(rt; model.traces.len() == 1);
-    let lasso = &model.traces[0].lasso;
-    assert!(rt; is_of_space(&model.space, lasso));
+    let traces = model.traces();
+    assert!(rt; traces.len() == 1);
+    let lasso = &traces[0].lasso;
+    assert!(rt; is_of_space(space(model), lasso));
     lasso
 }
 
 // The model of goals and of a lasso.
-fn model_with(rt: &impl Abort, alloc: Global, goals: &str, states: &str) -> Result<Model, Fail>
-    ensures well_formed { IfOk result (λ m. IsWellFormed (model_of m)) }
-{
+fn model_with(rt: &impl Abort, alloc: Global, goals: &str, states: &str) -> Result<Model, Fail> {
     let statements = format!(in alloc; "{goals} trace t: {states};")?;
     model(rt, alloc, VARIABLES, &statements)
 }
 
 // Whether the first goal is true on the lasso, by scratch that is full of ones.
-fn truth(rt: &impl Abort, alloc: Global, model: &Model) -> Result<bool, Memory>
-    requires well_formed { IsWellFormed (model_of model.now) }
-{
-    assert!(rt; model.goals.len() == 1);
-    let (formula, lasso) = (goal(model, 0), lasso_of(rt, model));
+fn truth(rt: &impl Abort, alloc: Global, model: &Model) -> Result<bool, Memory> {
+    assert!(rt; model.goals().len() == 1);
+    let (formula, lasso) = (goal(rt, model, 0), lasso_of(rt, model));
     let mut scratch = vec![in alloc; u64::MAX; scratch_len(lasso, formula) as usize]?;
-    Ok(truth_at_start(&model.space, lasso, formula, &mut scratch))
+    Ok(truth_at_start(space(model), lasso, formula, &mut scratch))
 }
 
 // Compares whether the first goal is true on the lasso.
@@ -233,9 +231,7 @@ fn compare_truth(
     model: &Model,
     expected: bool,
     row: &str,
-) -> Result<(), Fail>
-    requires well_formed { IsWellFormed (model_of model.now) }
-{
+) -> Result<(), Fail> {
     assert_eq!(rt; truth(rt, alloc, model)?, expected, "{row}");
     Ok(())
 }
@@ -262,18 +258,16 @@ fn first(
     model: &Model,
     list: &[Formula],
 ) -> Result<Option<usize>, Memory>
-    requires fit { All (λ f. Fits (ranges model.now.space) (tree_of f)) list.now }
+    requires fit { All (λ f. Fits (model_of model.now).ranges (tree_of f)) list.now }
 {
     let lasso = lasso_of(rt, model);
     assert!(rt; is_enough(lasso, list, 10));
     let mut scratch = vec![in alloc; u64::MAX; 10]?;
-    Ok(first_false(&model.space, lasso, list, &mut scratch))
+    Ok(first_false(space(model), lasso, list, &mut scratch))
 }
 
 // The place of the first goal that is false on the lasso.
-fn first_goal(rt: &impl Abort, alloc: Global, model: &Model) -> Result<Option<usize>, Memory>
-    requires well_formed { IsWellFormed (model_of model.now) }
-{
+fn first_goal(rt: &impl Abort, alloc: Global, model: &Model) -> Result<Option<usize>, Memory> {
     let list = formulas(alloc, model)?;
     first(rt, alloc, model, &list)
 }
@@ -285,9 +279,7 @@ fn compare_first(
     model: &Model,
     expected: Option<usize>,
     row: &str,
-) -> Result<(), Fail>
-    requires well_formed { IsWellFormed (model_of model.now) }
-{
+) -> Result<(), Fail> {
     assert_eq!(rt; first_goal(rt, alloc, model)?, expected, "{row}");
     Ok(())
 }

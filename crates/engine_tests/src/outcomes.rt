@@ -8,7 +8,7 @@ ghost use Rattle.tableau_rules.specs.Graphs.{IsWhole};
 ghost use Rattle.tableau_rules.specs.GraphView.{graph_of};
 ghost use Rattle.tableau_rules.specs.QueryView.{cores_in};
 
-use crate::reading::asked;
+use crate::reading::{asked, space};
 use elimination_cert::cert_text;
 use state_space::Space;
 use std::alloc::Global;
@@ -100,7 +100,7 @@ fn compare(
 fn compare_part(rt: &impl Abort, alloc: Global, part: &str) -> Result<(), Fail> {
     let (goals, expected) = part.split_once("\n").ok_or("goals without an outcome")?;
     let (model, query) = asked(rt, alloc, VARIABLES, goals)?;
-    compare(rt, alloc, &model.space, &query, expected)
+    compare(rt, alloc, space(&model), &query, expected)
 }
 
 #[test]

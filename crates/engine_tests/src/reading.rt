@@ -1,7 +1,7 @@
 //! What a row of a table stands for: the model that its text declares, the formulas of the model's
 //! goals, their cores, and the query that asks for all of them.
 
-ghost use Rattle.std.specs.Prelude.{◌<◌, All, IfOk, IsTrue, length, map};
+ghost use Rattle.std.specs.Prelude.{◌≡◌, All, IfOk, IsTrue, map};
 ghost use Rattle.state_space.specs.Spaces.{ranges, sizes};
 ghost use Rattle.temporal_logic.specs.Fits.{Fits};
 ghost use Rattle.temporal_logic.specs.Trees.{tree_of};
@@ -10,7 +10,8 @@ ghost use Rattle.bound_unfolding.specs.CoreView.{core_tree_of};
 ghost use Rattle.formula_table.specs.SmallLists.{AreSmall};
 ghost use Rattle.tableau_rules.specs.Queries.{IsOver};
 ghost use Rattle.tableau_rules.specs.QueryView.{cores_in};
-ghost use Rattle.goal_model.specs.Models.{model_of, IsWellFormed};
+ghost use Rattle.goal_model.specs.Models.{sizes_of};
+ghost use Rattle.goal_model.specs.ModelViews.{model_of};
 
 use bound_unfolding::{Core, core_depth, core_of, core_size};
 use entailment::query_of;
@@ -31,11 +32,9 @@ pub(crate) fn cut(row: &str) -> Result<(&str, &str), Fail> {
 }
 
 // The model of a text.
-fn read(rt: &impl Abort, alloc: Global, text: &str) -> Result<Model, Fail>
-    ensures well_formed { IfOk result (λ m. IsWellFormed (model_of m)) }
-{
+fn read(rt: &impl Abort, alloc: Global, text: &str) -> Result<Model, Fail> {
     let raw = read_model(alloc, text.as_bytes())?;
-    assert!(rt; raw.statements.len() < 4_294_967_296, "{text}");
+    assert!(rt; raw.statements.len() <= 2000, "{text}");
     Ok(resolve(alloc, &raw)?)
 }
 
@@ -52,29 +51,35 @@ pub(crate) fn model(
     alloc: Global,
     variables: &str,
     statements: &str,
-) -> Result<Model, Fail>
-    ensures well_formed { IfOk result (λ m. IsWellFormed (model_of m)) }
-{
+) -> Result<Model, Fail> {
     let text = format!(in alloc; "kaos 1; {variables} {statements}")?;
     read(rt, alloc, &text)
 }
 
-/// The formula of a goal of a model.
-pub(crate) fn goal(model: &Model, place: usize) -> &Formula
-    requires well_formed { IsWellFormed (model_of model.now) }
-    requires known { place < length model.now.goals.items }
-    ensures fits { Fits (ranges model.now.space) (tree_of result.now) }
+/// The variables of a model.
+pub(crate) fn space(model: &Model) -> &Space
+    ensures ranges { ranges result.now ≡ (model_of model.now).ranges }
+    ensures sizes { sizes result.now ≡ sizes_of (model_of model.now) }
 {
-    &model.goals[place].formula
+    model.space()
+}
+
+/// The formula of a goal that a model has.
+pub(crate) fn goal<'m>(rt: &impl Abort, model: &'m Model, place: usize) -> &'m Formula
+    ensures fits { Fits (model_of model.now).ranges (tree_of result.now) }
+{
+    let goals = model.goals();
+    assert!(rt; place < goals.len());
+    &goals[place].formula
 }
 
 /// The formulas of a model's goals.
 pub(crate) fn formulas(alloc: Global, model: &Model) -> Result<Vec<Formula>, Memory>
-    requires well_formed { IsWellFormed (model_of model.now) }
-    ensures fit { IfOk result (λ list. All (λ f. Fits (ranges model.now.space) (tree_of f)) list.items) }
+    ensures fit { IfOk result (λ list. All (λ f. Fits (model_of model.now).ranges (tree_of f)) list.items) }
 {
+    let goals = model.goals();
     let mut list = Vec::new(alloc);
-    'goals: for goal in &model.goals {
+    'goals: for goal in goals {
         list.push(goal.formula.clone(alloc)?)?;
     }
     Ok(list)
@@ -111,12 +116,12 @@ fn are_small(alloc: Global, space: &Space, list: &[Formula]) -> Result<bool, Mem
 
 // The query of the goals of a model.
 fn query(rt: &impl Abort, alloc: Global, model: &Model) -> Result<Query, Memory>
-    requires well_formed { IsWellFormed (model_of model.now) }
-    ensures over { IfOk result (λ query. All (IsOver (sizes model.now.space)) (cores_in query)) }
+    ensures over { IfOk result (λ query. All (IsOver (sizes_of (model_of model.now))) (cores_in query)) }
 {
     let list = formulas(alloc, model)?;
-    assert!(rt; are_small(alloc, &model.space, &list)?);
-    query_of(alloc, &model.space, &list)
+    let space = space(model);
+    assert!(rt; are_small(alloc, space, &list)?);
+    query_of(alloc, space, &list)
 }
 
 /// The model of the variables and goals, and the query of all the goals.
@@ -126,7 +131,7 @@ pub(crate) fn asked(
     variables: &str,
     goals: &str,
 ) -> Result<(Model, Query), Fail>
-    ensures over { IfOk result (λ asked. All (IsOver (sizes asked.0.space)) (cores_in asked.1)) }
+    ensures over { IfOk result (λ asked. All (IsOver (sizes_of (model_of asked.0))) (cores_in asked.1)) }
 {
     let model = model(rt, alloc, variables, goals)?;
     let query = query(rt, alloc, &model)?;

@@ -5,7 +5,7 @@ ghost use Rattle.formula_table.specs.Closures.{closure_of};
 ghost use Rattle.tableau_rules.specs.NodeView.{AreNumbersBelow};
 ghost use Rattle.tableau_rules.specs.QueryView.{cores_in};
 
-use crate::reading::{asked, cut};
+use crate::reading::{asked, cut, space};
 use elimination_cert::read_cert;
 use state_space::Space;
 use std::alloc::Global;
@@ -149,7 +149,7 @@ fn compare_rows(
 fn compare_part(rt: &impl Abort, alloc: Global, part: &str) -> Result<(), Fail> {
     let (goals, rows) = part.split_once("\n").ok_or("goals without a row")?;
     let (model, query) = asked(rt, alloc, VARIABLES, goals)?;
-    compare_rows(rt, alloc, &model.space, &query, rows)
+    compare_rows(rt, alloc, space(&model), &query, rows)
 }
 
 #[test]

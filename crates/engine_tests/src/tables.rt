@@ -1,8 +1,8 @@
 //! A table at its limit, and the numbers and shapes of the subformulas that cores bring.
 
-ghost use Rattle.goal_model.specs.Models.{model_of, IsWellFormed};
+ghost use Rattle.goal_model.specs.ModelViews.{model_of};
 
-use crate::reading::{core, cut, formulas, goal, model};
+use crate::reading::{core, cut, formulas, goal, model, space};
 use formula_table::{FormulaId, PutRefusal, Shape, Table, distinct_size};
 use goal_model::Model;
 use source_sink::Memory;
@@ -49,21 +49,15 @@ fn put_goal(
     model: &Model,
     place: usize,
     number: u16,
-) -> Result<(), Memory>
-    requires well_formed { IsWellFormed (model_of model.now) }
-{
-    assert!(rt; place < model.goals.len());
-    let core = core(rt, alloc, &model.space, goal(model, place), true)?;
+) -> Result<(), Memory> {
+    let core = core(rt, alloc, space(model), goal(rt, model, place), true)?;
     assert_eq!(rt; table.put_core(&core), Ok(FormulaId(number)));
     Ok(())
 }
 
 // Puts a goal without its core's tree, and compares its number.
-fn put_straight(rt: &impl Abort, table: &mut Table, model: &Model, place: usize, number: u16)
-    requires well_formed { IsWellFormed (model_of model.now) }
-{
-    assert!(rt; place < model.goals.len());
-    let put = table.put_formula(&model.space, goal(model, place), true);
+fn put_straight(rt: &impl Abort, table: &mut Table, model: &Model, place: usize, number: u16) {
+    let put = table.put_formula(space(model), goal(rt, model, place), true);
     assert_eq!(rt; put, Ok(FormulaId(number)));
 }
 
@@ -77,9 +71,7 @@ fn shapes(alloc: Global, table: &Table) -> Result<String, Fail> {
 }
 
 // Puts the cores of two goals, the first of them again, and compares the table.
-fn compare(rt: &impl Abort, alloc: Global, model: &Model) -> Result<(), Fail>
-    requires well_formed { IsWellFormed (model_of model.now) }
-{
+fn compare(rt: &impl Abort, alloc: Global, model: &Model) -> Result<(), Fail> {
     let mut table = Table::new(alloc);
     for (place, number) in [(0, 2), (1, 5), (0, 2)] {
         put_goal(rt, alloc, &mut table, model, place, number)?;
@@ -93,9 +85,7 @@ fn compare(rt: &impl Abort, alloc: Global, model: &Model) -> Result<(), Fail>
 }
 
 // Puts both goals straight, which gives the same table, and forgets some of it.
-fn compare_straight(rt: &impl Abort, alloc: Global, model: &Model) -> Result<(), Fail>
-    requires well_formed { IsWellFormed (model_of model.now) }
-{
+fn compare_straight(rt: &impl Abort, alloc: Global, model: &Model) -> Result<(), Fail> {
     let mut table = Table::new(alloc);
     put_straight(rt, &mut table, model, 0, 2);
     put_straight(rt, &mut table, model, 1, 5);
@@ -140,7 +130,7 @@ fn count(rt: &impl Abort, alloc: Global, row: &str) -> Result<(), Fail> {
     let (goals, distinct) = cut(row)?;
     let model = model(rt, alloc, VARIABLES, goals)?;
     let list = formulas(alloc, &model)?;
-    let size = distinct_size(alloc, &model.space, &list)?;
+    let size = distinct_size(alloc, space(&model), &list)?;
     assert_eq!(rt; size, distinct.parse::<u64>()?, "{row}");
     Ok(())
 }

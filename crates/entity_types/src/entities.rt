@@ -1,10 +1,10 @@
 //! Entity types of 2 to 8 members, and their attributes, each a row of variables of a space.
 
-ghost use Rattle.std.specs.Prelude.{◌≡◌, ◌≢◌, ◌≤◌, length, map, AllPairs};
+ghost use Rattle.std.specs.Prelude.{◌≡◌, ◌≢◌, ◌≤◌, length, map, AllPairs, bytes_eq, position as place_in};
 ghost use Rattle.entity_types.specs.Rows.{IsPlaced};
 ghost use Rattle.entity_types.specs.OneProof.{IsPlaced-prop};
 
-use crate::joined::add_row;
+use crate::joined::{add_row, is_some_long, joined_names};
 use source_sink::Memory;
 use state_space::{Name, Range, Space, VarId};
 use std::alloc::{AllocError, AllocFailed, Global};
@@ -72,6 +72,13 @@ struct Attribute {
     first: u8,
 }
 
+// The place of a name in a list.
+fn position(names: &[Name], name: &[u8]) -> Option<usize>
+    ensures { result ≡ place_in (λ n. bytes_eq n name.now) names.now }
+{
+    names.iter().position(|other| other.bytes() == name)
+}
+
 /// Entity types and their attributes, in the order in which they were added.
 #[derive(Drop)]
 pub struct Entities {
@@ -82,11 +89,11 @@ pub struct Entities {
 }
 
 impl Entities {
-    ghost use Rattle.std.specs.Prelude.{◌⊎◌, ◌↔◌, ℕ, ◌+◌, ◌<◌, [], ◌∷◌, ◌++◌, IfOk, OnOk, OnErr, IfErr, IsErrOf};
+    ghost use Rattle.std.specs.Prelude.{◌⊎◌, ◌↔◌, ℕ, ◌+◌, ◌<◌, [], ◌∷◌, ◌++◌, IfOk, OnOk, OnErr, IfErr, IfSome, IsErrOf, is_none, position, bytes_eq};
     ghost use Rattle.entity_types.specs.Rows.{count_of, owner_of, variable_of};
     ghost use Rattle.entity_types.specs.View.{type_names, member_names, attribute_names, attributes, rows_of};
     ghost use Rattle.entity_types.specs.Joined.{joined_names, members_of, AreAmong};
-    ghost use Rattle.entity_types.specs.Attributes.{RefusesAttribute, TakesAttribute};
+    ghost use Rattle.entity_types.specs.Attributes.{is_some_long, RefusesAttribute, TakesAttribute};
     ghost use Rattle.entity_types.specs.declared.entities.EntityRefusal.TheVariants.{BadRange as BadRangeCause, Memory as MemoryCause};
     ghost use Rattle.state_space.specs.Ranges.{form_of};
     ghost use Rattle.state_space.specs.Spaces.{names, ranges};
@@ -111,6 +118,43 @@ impl Entities {
         ensures few { result ≤ 8 }
     {
         self.types[entity as usize].members.len() as u8
+    }
+
+    /// The type of an attribute, which is there.
+    pub fn entity_of(&self, attr: u8) -> u16
+        requires { attr < length (rows_of self.now).owners }
+        ensures entity { result ≡ owner_of (rows_of self.now) attr }
+        ensures inside { result < length (rows_of self.now).counts }
+    {
+        self.attributes[attr as usize].entity
+    }
+
+    /// The place of the member of this name in a type that is there.
+    pub fn member(&self, entity: u16, name: &[u8]) -> Option<u8>
+        requires { entity < length (rows_of self.now).counts }
+        ensures place { result ≡ position (λ m. bytes_eq m name.now) (members_of self.now entity) }
+    {
+        let place = position(self.members(entity), name)?;
+        Some(place as u8)
+    }
+
+    /// The names that the variables of an attribute of this name would have, in member order, or
+    /// nothing where one of them has over 40 bytes.
+    pub fn joined_names(
+        &self,
+        alloc: Global,
+        attr: &Name,
+        entity: u16,
+    ) -> Result<Option<Vec<Name>>, Memory>
+        requires { entity < length (rows_of self.now).counts }
+        ensures long { IfOk result (λ o. is_none o ≡ is_some_long attr.now (members_of self.now entity)) }
+        ensures names { IfOk result (λ o. IfSome o (λ v. v.items ≡ joined_names attr.now (members_of self.now entity))) }
+    {
+        let members = self.members(entity);
+        if is_some_long(attr, members) {
+            return Ok(None);
+        }
+        Ok(Some(joined_names(alloc, attr, members)?))
     }
 
     // The members of a type, which is there.

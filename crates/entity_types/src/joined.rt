@@ -21,8 +21,8 @@ fn is_long(attr: &Name, member: &Name) -> bool
     attr.bytes().len() + 1 + member.bytes().len() > 40
 }
 
-// Whether that is so for some member.
-fn is_some_long(attr: &Name, members: &[Name]) -> bool
+/// Whether that is so for some member.
+pub(crate) fn is_some_long(attr: &Name, members: &[Name]) -> bool
     ensures { result ≡ is_some_long attr.now members.now }
 {
     members.iter().any(|member| is_long(attr, member))
@@ -43,8 +43,12 @@ fn joined_name(alloc: Global, attr: &Name, member: &Name) -> Result<Name, Memory
     }
 }
 
-// The joined names of all members, which are short enough.
-fn joined_names(alloc: Global, attr: &Name, members: &[Name]) -> Result<Vec<Name>, Memory>
+/// The joined names of all members, which are short enough.
+pub(crate) fn joined_names(
+    alloc: Global,
+    attr: &Name,
+    members: &[Name],
+) -> Result<Vec<Name>, Memory>
     requires short { is_some_long attr.now members.now ≡ false }
     ensures { IfOk result (λ v. v.items ≡ joined_names attr.now members.now) }
 {

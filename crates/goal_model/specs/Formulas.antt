@@ -1,62 +1,95 @@
--- Which formula over variables a written formula is.
-use Rattle.std.specs.Prelude.{ℕ, List, slice_index_or, Option, Some, None, option_map, option_and_then, if◌then◌else◌}
-use Rattle.state_space.specs.Ranges.{RangeForm, truth_values}
+-- Which formula over terms a written formula is, or the first fault from left to right; and the plain formula of that.
+use Rattle.std.specs.Prelude.{ℕ, List, [], Option, Some, None, Ok, nat_le, Bool, if◌then◌else◌}
+use Rattle.state_space.specs.Ranges.{truth_values}
 use Rattle.temporal_logic.specs.Ltl.{Relation, Ltl}
-use Rattle.temporal_logic.specs.Ltl as ltl
-use Rattle.model_text.specs.RawTrees.{WrittenValue, a_word, RawTree, truth, falsity, bare, compares, among, bare_of, compares_of, among_of, neg, next, eventually, always, eventually_within, always_within, conj, disj, implies, iff, entails, until, unless, release, until_within, unless_within, release_within, for_all, for_some}
-use Rattle.goal_model.specs.Names.{place_of}
+use Rattle.model_text.specs.RawTrees.{WrittenValue, a_word, an_attribute, RawTree, truth, falsity, bare, compares, among, bare_of, compares_of, among_of, neg, next, eventually, always, eventually_within, always_within, conj, disj, implies, iff, entails, until, unless, release, until_within, unless_within, release_within, for_all, for_some}
+use Rattle.entity_types.specs.declared.written.Opening.{Opening}
+use Rattle.entity_types.specs.declared.written.Opening.TheVariants.{Not, Next, Eventually, Always, EventuallyWithin, AlwaysWithin}
+use Rattle.entity_types.specs.declared.written.Joining.{Joining}
+use Rattle.entity_types.specs.declared.written.Joining.TheVariants.{And, Or, Implies, Iff, Entails, Until, Unless, Release, UntilWithin, UnlessWithin, ReleaseWithin}
+use Rattle.entity_types.specs.WrittenTrees.{TermForm, plain, WrittenTree, atom, opening, joining, all, exists}
+use Rattle.entity_types.specs.WrittenTrees as trees
+use Rattle.entity_types.specs.Grounding.{ground_of, nodes}
+use Rattle.goal_model.specs.declared.refusal.RefusalKind.TheVariants.{BadValue}
+use Rattle.goal_model.specs.declared.namespace.Kind.TheVariants.{EntityType}
+use Rattle.goal_model.specs.Refusals.{Resolved, and_then, refused}
 use Rattle.goal_model.specs.ValueIndexes.{index_in, set_with, is_same_range}
+use Rattle.goal_model.specs.Scopes.{ScopeForm, rows_in, variable_in, used, fresh_bound, binds}
+use Rattle.goal_model.specs.Terms.{term_in, range_of}
 
--- the range of the variable at a place, counted from 0; where there is none, that of truth values
-abbrev pub range_at : List RangeForm → ℕ → RangeForm
-range_at ranges x = slice_index_or ranges x truth_values
+-- ---- atoms: a term `t`, and the name `x` with which a bad value is refused
 
--- a variable alone: it has to be a truth value
-abbrev pub bare_over : List RangeForm → ℕ → Option Ltl
-bare_over ranges x = if is_same_range (range_at ranges x) truth_values then Some (ltl.flag x) else None
+-- a term alone: it has to be a truth value
+abbrev pub flag_in : ScopeForm → List ℕ → TermForm → Resolved WrittenTree
+flag_in s x t = if is_same_range (range_of s t) truth_values then Ok (atom (trees.flag t)) else refused BadValue x
 
--- a comparison with another variable, whose range has to be the same
-abbrev pub related_over : List RangeForm → ℕ → Relation → ℕ → Option Ltl
-related_over ranges x r y = if is_same_range (range_at ranges x) (range_at ranges y) then Some (ltl.relates x r y) else None
+-- a comparison with another term, whose range has to be the same
+abbrev pub related_in : ScopeForm → List ℕ → TermForm → Relation → TermForm → Resolved WrittenTree
+related_in s x t r u = if is_same_range (range_of s t) (range_of s u) then Ok (atom (trees.relates t r u)) else refused BadValue x
 
--- a name behind a comparison is a value where the variable's range has it, and else another variable
-abbrev pub compared_over : List (List ℕ) → List RangeForm → ℕ → Relation → WrittenValue → Option ℕ → Option Ltl
-compared_over names ranges x r value (Some i) = Some (ltl.compares x r i)
-compared_over names ranges x r (a_word y) None = option_and_then (related_over ranges x r) (place_of y names)
-compared_over names ranges x r value None = None
+-- what stands behind a comparison is a value where the term's range has it, and else another term
+abbrev pub compared_with : ScopeForm → List ℕ → TermForm → Relation → WrittenValue → Option ℕ → Resolved WrittenTree
+compared_with s x t r value (Some i) = Ok (atom (trees.compares t r i))
+compared_with s x t r (a_word y) None = and_then (variable_in s y) (λ k. related_in s x t r (plain k))
+compared_with s x t r (an_attribute f y) None = and_then (term_in s f y) (related_in s x t r)
+compared_with s x t r value None = refused BadValue x
 
--- a formula of two operands, where both are there
-abbrev pub both_over : (Ltl → Ltl → Ltl) → Option Ltl → Option Ltl → Option Ltl
-both_over joined (Some a) (Some b) = Some (joined a b)
-both_over joined (Some a) None = None
-both_over joined None b = None
+abbrev pub compared_in : ScopeForm → List ℕ → TermForm → Relation → WrittenValue → Resolved WrittenTree
+compared_in s x t r value = compared_with s x t r value (index_in (range_of s t) value)
 
--- the formula that is written so, over variables of these names and ranges; no attribute and no entity type can be declared yet
-abbrev pub formula_over : List (List ℕ) → List RangeForm → RawTree → Option Ltl
-formula_over ns rs truth = Some ltl.truth
-formula_over ns rs falsity = Some ltl.falsity
-formula_over ns rs (bare x) = option_and_then (bare_over rs) (place_of x ns)
-formula_over ns rs (compares x r v) = option_and_then (λ k. compared_over ns rs k r v (index_in (range_at rs k) v)) (place_of x ns)
-formula_over ns rs (among x vs) = option_and_then (λ k. option_map (ltl.among k) (set_with (range_at rs k) 0 vs)) (place_of x ns)
-formula_over ns rs (bare_of f x) = None
-formula_over ns rs (compares_of f x r v) = None
-formula_over ns rs (among_of f x vs) = None
-formula_over ns rs (neg a) = option_map ltl.neg (formula_over ns rs a)
-formula_over ns rs (next a) = option_map ltl.next (formula_over ns rs a)
-formula_over ns rs (eventually a) = option_map ltl.eventually (formula_over ns rs a)
-formula_over ns rs (always a) = option_map ltl.always (formula_over ns rs a)
-formula_over ns rs (eventually_within d a) = option_map (ltl.eventually_within d) (formula_over ns rs a)
-formula_over ns rs (always_within d a) = option_map (ltl.always_within d) (formula_over ns rs a)
-formula_over ns rs (conj a b) = both_over ltl.conj (formula_over ns rs a) (formula_over ns rs b)
-formula_over ns rs (disj a b) = both_over ltl.disj (formula_over ns rs a) (formula_over ns rs b)
-formula_over ns rs (implies a b) = both_over ltl.implies (formula_over ns rs a) (formula_over ns rs b)
-formula_over ns rs (iff a b) = both_over ltl.iff (formula_over ns rs a) (formula_over ns rs b)
-formula_over ns rs (entails a b) = both_over ltl.entails (formula_over ns rs a) (formula_over ns rs b)
-formula_over ns rs (until a b) = both_over ltl.until (formula_over ns rs a) (formula_over ns rs b)
-formula_over ns rs (unless a b) = both_over ltl.unless (formula_over ns rs a) (formula_over ns rs b)
-formula_over ns rs (release a b) = both_over ltl.release (formula_over ns rs a) (formula_over ns rs b)
-formula_over ns rs (until_within d a b) = both_over (ltl.until_within d) (formula_over ns rs a) (formula_over ns rs b)
-formula_over ns rs (unless_within d a b) = both_over (ltl.unless_within d) (formula_over ns rs a) (formula_over ns rs b)
-formula_over ns rs (release_within d a b) = both_over (ltl.release_within d) (formula_over ns rs a) (formula_over ns rs b)
-formula_over ns rs (for_all x e a) = None
-formula_over ns rs (for_some x e a) = None
+-- one of some values
+abbrev pub among_in : ScopeForm → List ℕ → TermForm → List WrittenValue → Resolved WrittenTree
+among_in s x t values = and_then (set_with x (range_of s t) 0 values) (λ set. Ok (atom (trees.among t set)))
+
+-- ---- operators
+
+abbrev pub one_in : Opening → Resolved WrittenTree → Resolved WrittenTree
+one_in o a = and_then a (λ f. Ok (opening o f))
+
+-- operands, the first before the second
+abbrev pub both_in : Joining → Resolved WrittenTree → Resolved WrittenTree → Resolved WrittenTree
+both_in j a b = and_then a (λ f. and_then b (λ g. Ok (joining j f g)))
+
+-- a quantifier: its name, its entity type, and what stands behind it
+abbrev pub each_in : ScopeForm → (x entity : List ℕ) → (ℕ → WrittenTree → WrittenTree) → (ScopeForm → Resolved WrittenTree) → Resolved WrittenTree
+each_in s x entity made body = and_then (fresh_bound s x) (λ _. and_then (used s EntityType entity) (λ e. and_then (body (binds s x e)) (λ f. Ok (made e f))))
+
+-- the formula that is written so
+abbrev pub written_in : ScopeForm → RawTree → Resolved WrittenTree
+written_in s truth = Ok (atom trees.truth)
+written_in s falsity = Ok (atom trees.falsity)
+written_in s (bare x) = and_then (variable_in s x) (λ k. flag_in s x (plain k))
+written_in s (compares x r v) = and_then (variable_in s x) (λ k. compared_in s x (plain k) r v)
+written_in s (among x vs) = and_then (variable_in s x) (λ k. among_in s x (plain k) vs)
+written_in s (bare_of f y) = and_then (term_in s f y) (flag_in s f)
+written_in s (compares_of f y r v) = and_then (term_in s f y) (λ t. compared_in s f t r v)
+written_in s (among_of f y vs) = and_then (term_in s f y) (λ t. among_in s f t vs)
+written_in s (neg a) = one_in Not (written_in s a)
+written_in s (next a) = one_in Next (written_in s a)
+written_in s (eventually a) = one_in Eventually (written_in s a)
+written_in s (always a) = one_in Always (written_in s a)
+written_in s (eventually_within d a) = one_in (EventuallyWithin d) (written_in s a)
+written_in s (always_within d a) = one_in (AlwaysWithin d) (written_in s a)
+written_in s (conj a b) = both_in And (written_in s a) (written_in s b)
+written_in s (disj a b) = both_in Or (written_in s a) (written_in s b)
+written_in s (implies a b) = both_in Implies (written_in s a) (written_in s b)
+written_in s (iff a b) = both_in Iff (written_in s a) (written_in s b)
+written_in s (entails a b) = both_in Entails (written_in s a) (written_in s b)
+written_in s (until a b) = both_in Until (written_in s a) (written_in s b)
+written_in s (unless a b) = both_in Unless (written_in s a) (written_in s b)
+written_in s (release a b) = both_in Release (written_in s a) (written_in s b)
+written_in s (until_within d a b) = both_in (UntilWithin d) (written_in s a) (written_in s b)
+written_in s (unless_within d a b) = both_in (UnlessWithin d) (written_in s a) (written_in s b)
+written_in s (release_within d a b) = both_in (ReleaseWithin d) (written_in s a) (written_in s b)
+written_in s (for_all x entity a) = each_in s x entity all (λ inner. written_in inner a)
+written_in s (for_some x entity a) = each_in s x entity exists (λ inner. written_in inner a)
+
+-- ---- plain formulas
+
+-- the plain formula
+abbrev pub plain_of : ScopeForm → WrittenTree → Ltl
+plain_of s f = ground_of (rows_in s) [] f
+
+-- whether the plain formula has at most 4,096 operators and atoms
+abbrev pub is_narrow : ScopeForm → WrittenTree → Bool
+is_narrow s f = nat_le (nodes (plain_of s f)) 4096

@@ -1,10 +1,16 @@
 -- Which goals are reached from which over refinements, and when a refinement closes a cycle.
-use Rattle.std.specs.Prelude.{◌≡◌, ℕ, ◌⊎◌, List, [], ◌∷◌, ◌++◌, Contains}
-use Rattle.goal_model.specs.Models.{LinkForm, ModelForm}
+use Rattle.std.specs.Prelude.{◌≡◌, ℕ, zero, suc, ◌⊎◌, Bool, false, not, ◌||◌, List, [], Contains, length, filter, flat_map, ◌==◌, if◌then◌else◌}
+use Rattle.std.specs.List.{list_any}
+use Rattle.goal_model.specs.Models.{LinkForm, refine}
+
+-- the subgoals that a link gives a goal
+abbrev pub subgoals_by : ℕ → LinkForm → List ℕ
+subgoals_by goal (refine statement parent subgoals pattern) = if parent == goal then subgoals else []
+subgoals_by goal link = []
 
 -- a goal is a subgoal of another
 abbrev pub IsSubgoal : List LinkForm → ℕ → ℕ → Type 0
-IsSubgoal links from to = (l : LinkForm) × Contains links l × (l.parent ≡ from) × Contains l.subgoals to
+IsSubgoal links from to = (l : LinkForm) × Contains links l × Contains (subgoals_by from l) to
 
 -- a goal is reached from another over one link or more
 pub data Reaches (links : List LinkForm) : ℕ → ℕ → Type 0 where
@@ -15,6 +21,22 @@ pub data Reaches (links : List LinkForm) : ℕ → ℕ → Type 0 where
 abbrev pub IsCyclic : List LinkForm → ℕ → List ℕ → Type 0
 IsCyclic links parent subgoals = (g : ℕ) × Contains subgoals g × ((g ≡ parent) ⊎ Reaches links g parent)
 
--- the last link of a model closes a cycle over the links before it
-abbrev pub ClosesCycle : ModelForm → ModelForm → Type 0
-ClosesCycle old new = (l : LinkForm) × (new.links ≡ old.links ++ l ∷ []) × IsCyclic old.links l.parent l.subgoals
+-- ---- the same as a test
+
+-- whether a link refines a goal
+abbrev pub refines : ℕ → LinkForm → Bool
+refines goal (refine statement parent subgoals pattern) = parent == goal
+refines goal link = false
+
+-- the links but those that refine a goal
+abbrev pub without : ℕ → List LinkForm → List LinkForm
+without goal links = filter (λ l. not (refines goal l)) links
+
+-- whether one of the goals is this one, or it is reached from one of them: a goal that was left is not left again, so that as many steps as
+-- there are links are enough
+unfoldable pub is_reached : ℕ → List LinkForm → ℕ → List ℕ → Bool
+is_reached zero links goal from = list_any (λ g. g == goal) from
+is_reached (suc n) links goal from = list_any (λ g. g == goal || is_reached n (without g links) goal (flat_map (subgoals_by g) links)) from
+
+abbrev pub closes_cycle : List LinkForm → ℕ → List ℕ → Bool
+closes_cycle links parent subgoals = is_reached (length links) links parent subgoals

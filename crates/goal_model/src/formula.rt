@@ -1,166 +1,260 @@
-//! From formulas as they are written to formulas over the variables of a space, one match arm an
-//! operator. None comes back exactly where specs/Formulas.antt gives none; a further kind of atom
-//! or operator gets its arm here and there.
+//! From formulas as they are written to formulas over the variables of a space and the attributes of entity types, with every name looked up.
 
-ghost use Rattle.std.specs.Prelude.{◌≡◌, ◌<◌, None, Some, length, map, IfOk, option_map, option_and_then};
-ghost use Rattle.state_space.specs.Spaces.{names, ranges};
-ghost use Rattle.temporal_logic.specs.Ltl.{Ltl};
-ghost use Rattle.temporal_logic.specs.Trees.{tree_of, relation_of};
-ghost use Rattle.model_text.specs.RawTrees.{bare as bare_tree, compares as compares_tree, among as among_tree};
-ghost use Rattle.model_text.specs.RawView.{raw_tree, written};
-ghost use Rattle.goal_model.specs.Names.{place_of};
-ghost use Rattle.goal_model.specs.Formulas.{related_over, compared_over, both_over, formula_over};
+ghost use Rattle.std.specs.Prelude.{◌≡◌, ◌+◌, ◌≤◌, ℕ, None, length, map, IfOk};
+ghost use Rattle.temporal_logic.specs.Trees.{relation_of};
+ghost use Rattle.model_text.specs.Limits.{depth_of};
+ghost use Rattle.model_text.specs.RawView.{raw_tree, written as value_of};
+ghost use Rattle.entity_types.specs.WrittenTrees.{WrittenTree, plain};
+ghost use Rattle.entity_types.specs.View.{term_of, written_tree};
+ghost use Rattle.goal_model.specs.Refusals.{Gives, and_then};
+ghost use Rattle.goal_model.specs.Scopes.{scope_of, variable_in};
+ghost use Rattle.goal_model.specs.WholeScopes.{IsScope, TermIsOf};
+ghost use Rattle.goal_model.specs.Formulas.{flag_in, related_in, compared_with, compared_in, among_in, one_in, both_in, each_in, written_in};
 
+use crate::namespace::Scope;
+use crate::refusal::{RefusalKind, Stop, refused};
+use crate::terms::{range, term};
 use crate::value_index::{index_in, set_of};
+use entity_types::{Atom, Joining, Opening, Term, Written};
 use model_text::{RawFormula, RawValue};
-use source_sink::Memory;
-use state_space::{Name, Range, Space, VarId};
+use state_space::{Name, Range};
 use std::alloc::Global;
-use temporal_logic::{Cmp, Formula};
+use temporal_logic::Cmp;
 
-// A name alone: a variable that is a truth value.
-fn bare(space: &Space, name: &Name) -> Option<Formula>
-    ensures { option_map tree_of result ≡ formula_over (names space.now) (ranges space.now) (bare_tree name.now) }
+// A variable of a name that is used, as a term.
+fn variable(alloc: Global, scope: &Scope<'_>, name: &Name) -> Result<Term, Stop>
+    ensures exact { Gives term_of result (and_then (variable_in (scope_of scope.now) name.now) (λ k. Ok (plain k))) }
+    ensures inside { IfOk result (λ t. TermIsOf (scope_of scope.now) (term_of t)) }
 {
-    let x = space.find(name.bytes())?;
-    match space.range_of(x) {
-        Range::Bool => Some(Formula::Flag(x)),
-        _ => None,
+    Ok(Term::Var(scope.variable(alloc, name)?))
+}
+
+// A term alone, which has to be a truth value; else the name is refused.
+fn flag(alloc: Global, scope: &Scope<'_>, name: &Name, term: Term) -> Result<Written, Stop>
+    requires scope { IsScope (scope_of scope.now) }
+    requires term { TermIsOf (scope_of scope.now) (term_of term) }
+    ensures { Gives written_tree result (flag_in (scope_of scope.now) name.now (term_of term)) }
+{
+    match range(scope, term) {
+        Range::Bool => Ok(Written::Atom(Atom::Flag(term))),
+        _ => refused(alloc, RefusalKind::BadValue, name),
     }
 }
 
-// A comparison with another variable, whose range has to be the same.
-fn related(space: &Space, x: VarId, cmp: Cmp, name: &Name) -> Option<Formula>
-    requires { x.0 < length (names space.now) }
-    ensures { option_map tree_of result ≡ option_and_then (related_over (ranges space.now) x.0 (relation_of cmp)) (place_of name.now (names space.now)) }
+// A comparison of a term with another, whose range has to be the same; else the name is refused.
+fn related(
+    alloc: Global,
+    scope: &Scope<'_>,
+    name: &Name,
+    term: Term,
+    cmp: Cmp,
+    other: Term,
+) -> Result<Written, Stop>
+    requires scope { IsScope (scope_of scope.now) }
+    requires term { TermIsOf (scope_of scope.now) (term_of term) }
+    requires other { TermIsOf (scope_of scope.now) (term_of other) }
+    ensures { Gives written_tree result (related_in (scope_of scope.now) name.now (term_of term) (relation_of cmp) (term_of other)) }
 {
-    let y = space.find(name.bytes())?;
-    if space.range_of(x).is_same(space.range_of(y)) {
-        Some(Formula::Same(x, cmp, y))
-    } else {
-        None
+    if !range(scope, term).is_same(range(scope, other)) {
+        return refused(alloc, RefusalKind::BadValue, name);
     }
+    Ok(Written::Atom(Atom::Same(term, cmp, other)))
 }
 
-// A comparison with what is written, which is no value of the first variable's range.
-fn other_compared(space: &Space, x: VarId, cmp: Cmp, value: &RawValue) -> Option<Formula>
-    requires { x.0 < length (names space.now) }
-    ensures { option_map tree_of result ≡ compared_over (names space.now) (ranges space.now) x.0 (relation_of cmp) (written value.now) None }
+// A comparison of a term with what is written, which is no value of the term's range.
+fn other_compared(
+    alloc: Global,
+    scope: &Scope<'_>,
+    name: &Name,
+    left: Term,
+    cmp: Cmp,
+    value: &RawValue,
+) -> Result<Written, Stop>
+    requires scope { IsScope (scope_of scope.now) }
+    requires few { length (scope_of scope.now).bound ≤ 255 }
+    requires left { TermIsOf (scope_of scope.now) (term_of left) }
+    ensures { Gives written_tree result (compared_with (scope_of scope.now) name.now (term_of left) (relation_of cmp) (value_of value.now) None) }
 {
     match value {
-        RawValue::Word(other) => related(space, x, cmp, other),
-        _ => None,
+        RawValue::Word(other) => {
+            let other = variable(alloc, scope, other)?;
+            related(alloc, scope, name, left, cmp, other)
+        }
+        RawValue::Of(attribute, inner) => {
+            let other = term(alloc, scope, attribute, inner)?;
+            related(alloc, scope, name, left, cmp, other)
+        }
+        _ => refused(alloc, RefusalKind::BadValue, name),
     }
 }
 
-// A comparison with a value, or else with another variable.
-fn compared(space: &Space, name: &Name, cmp: Cmp, value: &RawValue) -> Option<Formula>
-    ensures { option_map tree_of result ≡ formula_over (names space.now) (ranges space.now) (compares_tree name.now (relation_of cmp) (written value.now)) }
-{
-    let x = space.find(name.bytes())?;
-    if let Some(index) = index_in(space.range_of(x), value) {
-        return Some(Formula::Is(x, cmp, index));
-    }
-    other_compared(space, x, cmp, value)
-}
-
-// One of some values.
-fn among(space: &Space, name: &Name, values: &[RawValue]) -> Option<Formula>
-    ensures { option_map tree_of result ≡ formula_over (names space.now) (ranges space.now) (among_tree name.now (map written values.now)) }
-{
-    let x = space.find(name.bytes())?;
-    let set = set_of(space.range_of(x), values)?;
-    Some(Formula::Among(x, set))
-}
-
-// An operand, in a place of its own.
-#[cycle(formulas)]
-fn operand(alloc: Global, space: &Space, raw: &RawFormula) -> Result<Option<Box<Formula>>, Memory>
-    ensures { IfOk result (λ o. option_map (λ b. tree_of b.value) o ≡ formula_over (names space.now) (ranges space.now) (raw_tree raw.now)) }
-{
-    match formula(alloc, space, raw)? {
-        Some(formula) => Ok(Some(Box::new(alloc, formula)?)),
-        None => Ok(None),
-    }
-}
-
-// Two operands, where both are there.
-#[cycle(formulas)]
-fn operands(
+// A comparison of a term with a value, or else with another term.
+fn compared(
     alloc: Global,
-    space: &Space,
+    scope: &Scope<'_>,
+    name: &Name,
+    left: Term,
+    cmp: Cmp,
+    value: &RawValue,
+) -> Result<Written, Stop>
+    requires scope { IsScope (scope_of scope.now) }
+    requires few { length (scope_of scope.now).bound ≤ 255 }
+    requires left { TermIsOf (scope_of scope.now) (term_of left) }
+    ensures { Gives written_tree result (compared_in (scope_of scope.now) name.now (term_of left) (relation_of cmp) (value_of value.now)) }
+{
+    match index_in(range(scope, left), value) {
+        Some(index) => Ok(Written::Atom(Atom::Is(left, cmp, index))),
+        None => other_compared(alloc, scope, name, left, cmp, value),
+    }
+}
+
+// A term that has one of some values.
+fn among(
+    alloc: Global,
+    scope: &Scope<'_>,
+    name: &Name,
+    term: Term,
+    values: &[RawValue],
+) -> Result<Written, Stop>
+    requires scope { IsScope (scope_of scope.now) }
+    requires term { TermIsOf (scope_of scope.now) (term_of term) }
+    ensures { Gives written_tree result (among_in (scope_of scope.now) name.now (term_of term) (map value_of values.now)) }
+{
+    let set = set_of(alloc, name, range(scope, term), values)?;
+    Ok(Written::Atom(Atom::Among(term, set)))
+}
+
+// An operator and its operand.
+#[cycle(formulas)]
+fn opened(
+    alloc: Global,
+    scope: &Scope<'_>,
+    opening: Opening,
+    operand: &RawFormula,
+) -> Result<Written, Stop>
+    requires scope { IsScope (scope_of scope.now) }
+    requires shallow { length (scope_of scope.now).bound + depth_of (raw_tree operand.now) ≤ 255 }
+    ensures { Gives written_tree result (one_in opening (written_in (scope_of scope.now) (raw_tree operand.now))) }
+{
+    let operand = written(alloc, scope, operand)?;
+    Ok(Written::Opened(opening, Box::new(alloc, operand)?))
+}
+
+// An operator and its two operands, the first before the second.
+#[cycle(formulas)]
+fn joined(
+    alloc: Global,
+    scope: &Scope<'_>,
+    joining: Joining,
     first: &RawFormula,
     second: &RawFormula,
-) -> Result<Option<(Box<Formula>, Box<Formula>)>, Memory>
-    ensures { IfOk result (λ o. (joined : Ltl → Ltl → Ltl) → option_map (λ p. joined (tree_of p.0.value) (tree_of p.1.value)) o
-        ≡ both_over joined (formula_over (names space.now) (ranges space.now) (raw_tree first.now)) (formula_over (names space.now) (ranges space.now) (raw_tree second.now))) }
+) -> Result<Written, Stop>
+    requires scope { IsScope (scope_of scope.now) }
+    requires first { length (scope_of scope.now).bound + depth_of (raw_tree first.now) ≤ 255 }
+    requires second { length (scope_of scope.now).bound + depth_of (raw_tree second.now) ≤ 255 }
+    ensures { Gives written_tree result (both_in joining (written_in (scope_of scope.now) (raw_tree first.now)) (written_in (scope_of scope.now) (raw_tree second.now))) }
 {
-    let Some(first) = operand(alloc, space, first)? else {
-        return Ok(None);
-    };
-    let Some(second) = operand(alloc, space, second)? else {
-        return Ok(None);
-    };
-    Ok(Some((first, second)))
+    let first = written(alloc, scope, first)?;
+    let second = written(alloc, scope, second)?;
+    Ok(Written::Joined(joining, Box::new(alloc, first)?, Box::new(alloc, second)?))
 }
 
-/// The formula that is written so, over the variables of a space: none where a name is no variable, a
-/// variable alone is no truth value, a value is none of its variable's range, or two variables are
-/// compared that have different ranges. An error only where memory runs out.
+// The entity type of a quantifier, and what stands behind it.
 #[cycle(formulas)]
-pub(crate) fn formula(
+fn quantified(
     alloc: Global,
-    space: &Space,
-    raw: &RawFormula,
-) -> Result<Option<Formula>, Memory>
-    ensures { IfOk result (λ o. option_map tree_of o ≡ formula_over (names space.now) (ranges space.now) (raw_tree raw.now)) }
+    scope: &Scope<'_>,
+    name: &Name,
+    entity: &Name,
+    body: &RawFormula,
+) -> Result<(u16, Box<Written>), Stop>
+    requires scope { IsScope (scope_of scope.now) }
+    requires shallow { length (scope_of scope.now).bound + 1 + depth_of (raw_tree body.now) ≤ 255 }
+    ensures { (made : ℕ → WrittenTree → WrittenTree) → Gives (λ p. made p.0 (written_tree p.1.value)) result
+        (each_in (scope_of scope.now) name.now entity.now made (λ inner. written_in inner (raw_tree body.now))) }
+{
+    scope.fresh_bound(alloc, name)?;
+    let entity = scope.entity_type(alloc, entity)?;
+    let bound = scope.binding(alloc, name, entity)?;
+    let inner = Scope {
+        space: scope.space,
+        entities: scope.entities,
+        names: scope.names,
+        bound: &bound,
+    };
+    let body = written(alloc, &inner, body)?;
+    Ok((entity, Box::new(alloc, body)?))
+}
+
+/// The formula that is written so, or the first fault in it from left to right.
+#[cycle(formulas)]
+pub(crate) fn written(alloc: Global, scope: &Scope<'_>, raw: &RawFormula) -> Result<Written, Stop>
+    requires scope { IsScope (scope_of scope.now) }
+    requires shallow { length (scope_of scope.now).bound + depth_of (raw_tree raw.now) ≤ 255 }
+    ensures { Gives written_tree result (written_in (scope_of scope.now) (raw_tree raw.now)) }
 {
     match raw {
-        RawFormula::True => Ok(Some(Formula::True)),
-        RawFormula::False => Ok(Some(Formula::False)),
-        RawFormula::Bare(name) => Ok(bare(space, name)),
-        RawFormula::Compare(name, cmp, value) => Ok(compared(space, name, *cmp, value)),
-        RawFormula::Among(name, values) => Ok(among(space, name, values)),
-        RawFormula::BareOf(..) | RawFormula::CompareOf(..) | RawFormula::AmongOf(..) => Ok(None),
-        RawFormula::Not(a) => Ok(operand(alloc, space, a)?.map(Formula::Not)),
-        RawFormula::Next(a) => Ok(operand(alloc, space, a)?.map(Formula::Next)),
-        RawFormula::Eventually(a) => Ok(operand(alloc, space, a)?.map(Formula::Eventually)),
-        RawFormula::Always(a) => Ok(operand(alloc, space, a)?.map(Formula::Always)),
-        RawFormula::EventuallyWithin(d, a) => {
-            Ok(operand(alloc, space, a)?.map(|a| Formula::EventuallyWithin(*d, a)))
+        RawFormula::True => Ok(Written::Atom(Atom::True)),
+        RawFormula::False => Ok(Written::Atom(Atom::False)),
+        RawFormula::Bare(name) => {
+            let x = variable(alloc, scope, name)?;
+            flag(alloc, scope, name, x)
         }
-        RawFormula::AlwaysWithin(d, a) => {
-            Ok(operand(alloc, space, a)?.map(|a| Formula::AlwaysWithin(*d, a)))
+        RawFormula::Compare(name, cmp, value) => {
+            let x = variable(alloc, scope, name)?;
+            compared(alloc, scope, name, x, *cmp, value)
         }
-        RawFormula::And(a, b) => {
-            Ok(operands(alloc, space, a, b)?.map(|(a, b)| Formula::And(a, b)))
+        RawFormula::Among(name, values) => {
+            let x = variable(alloc, scope, name)?;
+            among(alloc, scope, name, x, values)
         }
-        RawFormula::Or(a, b) => Ok(operands(alloc, space, a, b)?.map(|(a, b)| Formula::Or(a, b))),
-        RawFormula::Implies(a, b) => {
-            Ok(operands(alloc, space, a, b)?.map(|(a, b)| Formula::Implies(a, b)))
+        RawFormula::BareOf(name, inner) => {
+            let x = term(alloc, scope, name, inner)?;
+            flag(alloc, scope, name, x)
         }
-        RawFormula::Iff(a, b) => Ok(operands(alloc, space, a, b)?.map(|(a, b)| Formula::Iff(a, b))),
-        RawFormula::Entails(a, b) => {
-            Ok(operands(alloc, space, a, b)?.map(|(a, b)| Formula::Entails(a, b)))
+        RawFormula::CompareOf(name, inner, cmp, value) => {
+            let x = term(alloc, scope, name, inner)?;
+            compared(alloc, scope, name, x, *cmp, value)
         }
-        RawFormula::Until(a, b) => {
-            Ok(operands(alloc, space, a, b)?.map(|(a, b)| Formula::Until(a, b)))
+        RawFormula::AmongOf(name, inner, values) => {
+            let x = term(alloc, scope, name, inner)?;
+            among(alloc, scope, name, x, values)
         }
-        RawFormula::Unless(a, b) => {
-            Ok(operands(alloc, space, a, b)?.map(|(a, b)| Formula::Unless(a, b)))
+        RawFormula::Not(a) => opened(alloc, scope, Opening::Not, a),
+        RawFormula::Next(a) => opened(alloc, scope, Opening::Next, a),
+        RawFormula::Eventually(a) => opened(alloc, scope, Opening::Eventually, a),
+        RawFormula::Always(a) => opened(alloc, scope, Opening::Always, a),
+        RawFormula::EventuallyWithin(d, a) => opened(
+            alloc,
+            scope,
+            Opening::EventuallyWithin(*d),
+            a,
+        ),
+        RawFormula::AlwaysWithin(d, a) => opened(alloc, scope, Opening::AlwaysWithin(*d), a),
+        RawFormula::And(a, b) => joined(alloc, scope, Joining::And, a, b),
+        RawFormula::Or(a, b) => joined(alloc, scope, Joining::Or, a, b),
+        RawFormula::Implies(a, b) => joined(alloc, scope, Joining::Implies, a, b),
+        RawFormula::Iff(a, b) => joined(alloc, scope, Joining::Iff, a, b),
+        RawFormula::Entails(a, b) => joined(alloc, scope, Joining::Entails, a, b),
+        RawFormula::Until(a, b) => joined(alloc, scope, Joining::Until, a, b),
+        RawFormula::Unless(a, b) => joined(alloc, scope, Joining::Unless, a, b),
+        RawFormula::Release(a, b) => joined(alloc, scope, Joining::Release, a, b),
+        RawFormula::UntilWithin(d, a, b) => joined(alloc, scope, Joining::UntilWithin(*d), a, b),
+        RawFormula::UnlessWithin(d, a, b) => joined(alloc, scope, Joining::UnlessWithin(*d), a, b),
+        RawFormula::ReleaseWithin(d, a, b) => joined(
+            alloc,
+            scope,
+            Joining::ReleaseWithin(*d),
+            a,
+            b,
+        ),
+        RawFormula::All(x, entity, a) => {
+            let (entity, body) = quantified(alloc, scope, x, entity, a)?;
+            Ok(Written::All(entity, body))
         }
-        RawFormula::Release(a, b) => {
-            Ok(operands(alloc, space, a, b)?.map(|(a, b)| Formula::Release(a, b)))
+        RawFormula::Exists(x, entity, a) => {
+            let (entity, body) = quantified(alloc, scope, x, entity, a)?;
+            Ok(Written::Exists(entity, body))
         }
-        RawFormula::UntilWithin(d, a, b) => {
-            Ok(operands(alloc, space, a, b)?.map(|(a, b)| Formula::UntilWithin(*d, a, b)))
-        }
-        RawFormula::UnlessWithin(d, a, b) => {
-            Ok(operands(alloc, space, a, b)?.map(|(a, b)| Formula::UnlessWithin(*d, a, b)))
-        }
-        RawFormula::ReleaseWithin(d, a, b) => {
-            Ok(operands(alloc, space, a, b)?.map(|(a, b)| Formula::ReleaseWithin(*d, a, b)))
-        }
-        RawFormula::All(..) | RawFormula::Exists(..) => Ok(None),
     }
 }

@@ -1,14 +1,39 @@
-//! From the statements of a text to its model: every name is looked up, and the first statement that
-//! can't be resolved is named. For whoever asks something of a model.
+//! From the statements of a text to its model: every name is looked up, or the first fault is named. For whoever asks something of a model.
 #![tactic(auto)]
 
-mod demand_size;
+mod agents;
+mod contents;
+mod demand;
+mod draft;
 mod formula;
+mod item;
+mod item_size;
+mod label;
+mod law;
+mod links;
+mod list_size;
 mod model;
+mod name_index;
+mod namespace;
+mod operations;
+mod pattern;
+mod properties;
 mod reachability;
+mod refusal;
 mod resolution;
 mod states;
+mod terms;
+mod traces;
 mod value_index;
+mod variable_list;
+mod variables;
 
-pub use model::{Goal, Link, Model, NamedTrace, Property};
-pub use resolution::{ModelRefusal, law_of_resolution, resolve};
+pub use contents::{Agent, Goal, Link, NamedTrace, Obstacle, Operation, Property, Requirement};
+pub use demand::{Demand, demand_list, domain_demand, requirement_tree};
+pub use item::{Item, Label, LabelKind, Part, Wanted, link_items};
+pub use label::label_text;
+pub use law::law_of_limits;
+pub use model::Model;
+pub use pattern::PatternKind;
+pub use refusal::{ModelRefusal, RefusalKind};
+pub use resolution::resolve;

@@ -5,30 +5,32 @@ use Rattle.model_text.specs.declared.text.TextRefusal.{TextRefusal}
 use Rattle.model_text.specs.declared.text.TextRefusal.TheVariants as texts
 use Rattle.model_text.specs.Statements.{StatementForm}
 use Rattle.model_text.specs.Readability.{IsReadable, Refuses}
-use Rattle.goal_model.specs.declared.resolution.ModelRefusal.{ModelRefusal}
-use Rattle.goal_model.specs.declared.resolution.ModelRefusal.TheVariants as models
+use Rattle.goal_model.specs.declared.refusal.RefusalKind.{RefusalKind}
 use Rattle.goal_model.specs.Models.{ModelForm}
-use Rattle.goal_model.specs.Resolution.{RefusesModel}
+use Rattle.goal_model.specs.Resolution.{made, refuses, outcome_of}
 use Rattle.kaos_program.specs.declared.command.Command.{Command}
 use Rattle.kaos_program.specs.declared.command.Command.TheVariants.{Check, Trace}
 use Rattle.kaos_program.specs.declared.report.Report.{Report}
+use Rattle.kaos_program.specs.Unanswered.{first_unanswered}
 use Rattle.kaos_program.specs.Reports.{Reports, status_of}
 use Rattle.kaos_program.specs.Truths.{AreTruths, status_of_truths}
-use Rattle.kaos_program.specs.Texts.{text_refusal, model_refusal, report_text, truths_text}
-use Rattle.kaos_program.specs.Answering.{IsAccepted, IsRefused, a_text, its_statements, Answers, a_refusal, a_report, truths}
+use Rattle.kaos_program.specs.Texts.{text_refusal, model_refusal, not_built, report_text, truths_text}
+use Rattle.kaos_program.specs.Answering.{IsAccepted, IsRefused, a_text, its_statements, a_link, Answers, a_refusal, a_report, truths}
 
 -- a cause that is not want of memory
 pub text_cause : (bytes : List ℕ) (e : TextRefusal) → (e ≡ texts.Memory) ⊎ Refuses bytes e → (e ≡ texts.Memory → ⊥) → Refuses bytes e
 text_cause bytes e either other = ⊎_elim (λ h. absurd (other h)) (λ h. h) either
 
-pub model_cause : (ss : List StatementForm) (e : ModelRefusal) → (e ≡ models.Memory) ⊎ RefusesModel ss e → (e ≡ models.Memory → ⊥) → RefusesModel ss e
-model_cause ss e either other = ⊎_elim (λ h. absurd (other h)) (λ h. h) either
-
 pub text_line : (bytes : List ℕ) (e : TextRefusal) (line : List ℕ) → length bytes ≤ 1048576 → Refuses bytes e → line ≡ text_refusal e → IsRefused bytes line
 text_line bytes e line size cause is = rw is (a_text e size cause)
 
-pub model_line : (bytes : List ℕ) (ss : List StatementForm) (e : ModelRefusal) (line : List ℕ) → length bytes ≤ 1048576 → IsReadable bytes ss → RefusesModel ss e → line ≡ model_refusal e → IsRefused bytes line
-model_line bytes ss e line size read cause is = rw is (its_statements ss e size read cause)
+pub model_line : (bytes : List ℕ) (ss : List StatementForm) (kind : RefusalKind) (statement : ℕ) (name line : List ℕ) → length bytes ≤ 1048576 → IsReadable bytes ss → outcome_of ss ≡ refuses kind statement name
+    → line ≡ model_refusal kind statement name → IsRefused bytes line
+model_line bytes ss kind statement name line size read cause is = rw is (its_statements ss kind statement name size read cause)
+
+pub link_line : (bytes : List ℕ) (ss : List StatementForm) (m : ModelForm) (statement : ℕ) (line : List ℕ) → length bytes ≤ 1048576 → IsReadable bytes ss → outcome_of ss ≡ made m → first_unanswered m.links ≡ Some statement
+    → line ≡ not_built statement → IsRefused bytes line
+link_line bytes ss m statement line size read makes first is = rw is (a_link ss m statement size read makes first)
 
 pub reported : (bytes : List ℕ) (ss : List StatementForm) (m : ModelForm) (r : Report) (status : ℕ) (out : List ℕ) → IsAccepted bytes ss m → Reports m r → status ≡ status_of r → out ≡ report_text m.names m.ranges r
     → Answers bytes Check status (Some r) out

@@ -1,42 +1,39 @@
--- Entries and links, one at a time.
-use Rattle.std.proofs.Common.{◌≡◌, ℕ, ◌+◌, ◌<◌, List, [], ◌∷◌, ◌++◌, map, length, get_or, take, All, sym, ap, subst, ◌∙◌}
-use Rattle.std.specs.Prelude.{slice_index_or}
-use Rattle.std.proofs.lemmas.List.{get_or-map, length-map, map-append, take_more}
-use Rattle.std.proofs.lemmas.List.Elements.{All-get_or}
-use Rattle.goal_model.specs.declared.model.Link as code
-use Rattle.goal_model.specs.declared.model.Goal.{Goal}
+-- Entries, those of one link more at a time.
+use Rattle.std.proofs.Common.{◌≡◌, ℕ, zero, suc, ◌+◌, ◌<◌, Bool, true, false, List, [], ◌∷◌, ◌++◌, length, take, refl, ap, ◌∙◌, arith}
+use Rattle.std.specs.Prelude.{None, Some, slice_index_or, if◌then◌else◌}
+use Rattle.std.specs.List.{flat_map}
+use Rattle.std.proofs.lemmas.List.{append-nil, take_more}
+use Rattle.std.proofs.lemmas.Grind.{flat_map-append}
+use Rattle.goal_model.specs.Models.{LinkForm, ModelForm}
+use Rattle.goal_model.specs.Items.{ItemForm, no_link}
 use Rattle.kaos_program.specs.declared.report.Entry.{Entry}
-use Rattle.goal_model.specs.Models.{NamedFormula, LinkForm, ModelForm, link_of, goal_of}
-use Rattle.kaos_program.specs.Reports.{IsEntry, AreEntries}
+use Rattle.kaos_program.specs.Unanswered.{is_answered, statement_of, first_unanswered}
+use Rattle.kaos_program.specs.Reports.{AreEntries, complete_items}
 
--- what all links have, the link at a place has
-pub link_inside : (P : LinkForm → Type 0) (xs : List code.Link) (i : ℕ) (x : code.Link) → All P (map link_of xs) → i < length xs → x ≡ get_or xs i x → P (link_of x)
-link_inside P xs i x all inside is =
-    let here : P (get_or (map link_of xs) i (link_of x)) = All-get_or P (map link_of xs) i (link_of x) (rw length-map inside) all in
-    subst P (get_or-map link_of xs i x (link_of x) inside ∙ ap link_of (sym is)) here
+-- where no link is unanswered, the link at a place is answered
+pub answered_at : (links : List LinkForm) (k : ℕ) → first_unanswered links ≡ None → k < length links → is_answered (slice_index_or links k no_link) ≡ true
+answered_at [] k none inside = absurd (omega (arith, inside))
+answered_at (link ∷ links) k none inside = by_place k inside (is_answered link) refl (answered_at links) none
+  where
+    by_place : (k : ℕ) → k < length (link ∷ links) → (b : Bool) → is_answered link ≡ b
+        → ((j : ℕ) → first_unanswered links ≡ None → j < length links → is_answered (slice_index_or links j no_link) ≡ true)
+        → (if b then first_unanswered links else Some (statement_of link)) ≡ None → is_answered (slice_index_or (link ∷ links) k no_link) ≡ true
+    by_place k inside false e rest none = absurd cc
+    by_place zero inside true e rest none = e
+    by_place (suc k) inside true e rest none = rest k none (omega (arith, inside))
 
--- the name of the goal at a place
-pub name_inside : (xs : List Goal) (i : ℕ) (g : Goal) → i < length xs → g ≡ get_or xs i g → slice_index_or (map (λ (f : NamedFormula). f.name) (map goal_of xs)) i [] ≡ g.name
-name_inside xs i g inside is =
-    get_or-map (λ (f : NamedFormula). f.name) (map goal_of xs) i (goal_of g) [] (rw length-map inside)
-    ∙ ap (λ (f : NamedFormula). f.name) (get_or-map goal_of xs i g (goal_of g) inside ∙ ap goal_of (sym is))
-
--- the name of a parent that was looked up by its place
-pub parent_named : (xs : List Goal) (k p : ℕ) (g : Goal) → k ≡ p → p < length (map goal_of xs) → g ≡ get_or xs k g → g.name ≡ slice_index_or (map (λ (f : NamedFormula). f.name) (map goal_of xs)) p []
-parent_named xs k p g same inside is =
-    let here : k < length xs = rw same (rw length-map at inside) in
-    sym (name_inside xs k g here is) ∙ ap (λ (i : ℕ). slice_index_or (map (λ (f : NamedFormula). f.name) (map goal_of xs)) i []) same
-
-AreEntries-push : (m : ModelForm) (budget : ℕ) (ls : List LinkForm) (es : List Entry) (l : LinkForm) (e : Entry) → AreEntries m budget ls es → IsEntry m budget l e → AreEntries m budget (ls ++ l ∷ []) (es ++ e ∷ [])
-AreEntries-push m budget [] [] l e all one = (one, tt)
-AreEntries-push m budget [] (f ∷ es) l e all one = absurd all
-AreEntries-push m budget (k ∷ ls) [] l e all one = absurd all
-AreEntries-push m budget (k ∷ ls) (f ∷ es) l e all one = (all.0, AreEntries-push m budget ls es l e all.1 one)
+AreEntries-append : (m : ModelForm) (budget : ℕ) (is js : List ItemForm) (es fs : List Entry) → AreEntries m budget is es → AreEntries m budget js fs → AreEntries m budget (is ++ js) (es ++ fs)
+AreEntries-append m budget [] js [] fs front back = back
+AreEntries-append m budget [] js (e ∷ es) fs front back = absurd front
+AreEntries-append m budget (i ∷ is) js [] fs front back = absurd front
+AreEntries-append m budget (i ∷ is) js (e ∷ es) fs front back = (front.0, AreEntries-append m budget is js es fs front.1 back)
 
 -- one link further
-pub entries_more : (m : ModelForm) (budget : ℕ) (xs : List code.Link) (es fs : List Entry) (i : ℕ) (x : code.Link) (e : Entry) → i < length xs → x ≡ get_or xs i x → AreEntries m budget (map link_of (take i xs)) es → IsEntry m budget (link_of x) e → fs ≡ es ++ e ∷ []
-    → AreEntries m budget (map link_of (take (i + 1) xs)) fs
-entries_more m budget xs es fs i x e inside is all one pushed =
-    let front : map link_of (take (i + 1) xs) ≡ map link_of (take i xs) ++ link_of x ∷ [] =
-    ap (map link_of) (take_more xs i x inside ∙ ap (λ (y : code.Link). take i xs ++ y ∷ []) (sym is)) ∙ map-append link_of (take i xs) (x ∷ []) in
-    rw (front, pushed) (AreEntries-push m budget (map link_of (take i xs)) es (link_of x) e all one)
+pub entries_more : (m : ModelForm) (budget : ℕ) (links : List LinkForm) (k : ℕ) (es fs : List Entry) (e : Entry) → k < length links → AreEntries m budget (flat_map (complete_items m) (take k links)) es
+    → AreEntries m budget (complete_items m (slice_index_or links k no_link)) (e ∷ []) → fs ≡ es ++ e ∷ [] → AreEntries m budget (flat_map (complete_items m) (take (k + 1) links)) fs
+entries_more m budget links k es fs e inside front here pushed =
+    let link = slice_index_or links k no_link in
+    let items : flat_map (complete_items m) (take (k + 1) links) ≡ flat_map (complete_items m) (take k links) ++ complete_items m link =
+    ap (flat_map (complete_items m)) (take_more links k no_link inside) ∙ flat_map-append (complete_items m) (take k links) (link ∷ [])
+    ∙ ap (λ (xs : List ItemForm). flat_map (complete_items m) (take k links) ++ xs) (append-nil (complete_items m link)) in
+    rw (items, pushed) (AreEntries-append m budget (flat_map (complete_items m) (take k links)) (complete_items m link) es (e ∷ []) front here)

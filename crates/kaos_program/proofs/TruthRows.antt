@@ -7,35 +7,32 @@ use Rattle.std.proofs.lemmas.List.Elements.{All-get_or}
 use Rattle.state_space.specs.declared.state.State.{State}
 use Rattle.state_space.specs.Ranges.{RangeForm}
 use Rattle.state_space.specs.Fitting.{ValuesFit}
-use Rattle.state_space.specs.Spaces.{sizes}
 use Rattle.temporal_logic.specs.Fits.{Fits}
 use Rattle.temporal_logic.specs.Trees.{tree_of}
 use Rattle.temporal_logic.specs.Lassos.{IsOfSpace}
 use Rattle.temporal_logic.specs.Truth.{Trace, Truth}
-use Rattle.temporal_logic.specs.Rows.{rows, AllFit, from_lists}
-use Rattle.goal_model.specs.declared.model.Goal.{Goal}
-use Rattle.goal_model.specs.declared.model.NamedTrace.{NamedTrace}
-use Rattle.goal_model.specs.declared.model.Model.{Model}
-use Rattle.goal_model.specs.Models.{NamedFormula, TraceForm, goal_of, named_trace_of, model_of, sizes_of, TraceIsOver}
+use Rattle.temporal_logic.specs.Rows.{rows, from_lists}
+use Rattle.goal_model.specs.declared.contents.Goal.{Goal}
+use Rattle.goal_model.specs.declared.contents.NamedTrace.{NamedTrace}
+use Rattle.goal_model.specs.Models.{GoalForm, TraceForm, goal_of, trace_of, TraceIsOver}
 use Rattle.kaos_program.specs.Truths.{AreTruthsOn, AreTruthRows}
 use Rattle.kaos_program.specs.Texts.{truth_line, lines_on, row_lines}
-use Rattle.kaos_program.proofs.ModelParts.{All-unmap, sizes_same}
+use Rattle.kaos_program.proofs.ModelParts.{All-unmap}
 
 -- ---- what a well-formed model gives
 pub goal_fits : (rs : List RangeForm) (xs : List Goal) (i : ℕ) (x : Goal) → All (λ g. Fits rs g.formula) (map goal_of xs) → i < length xs → x ≡ get_or xs i x → Fits rs (tree_of x.formula)
 goal_fits rs xs i x all inside is =
-    let F = λ (g : NamedFormula). Fits rs g.formula in
+    let F = λ (g : GoalForm). Fits rs g.formula in
     subst (λ (y : Goal). F (goal_of y)) (sym is) (All-get_or (λ (y : Goal). F (goal_of y)) xs i x inside (All-unmap F goal_of xs all))
 
-pub trace_fits : (m : Model) (i : ℕ) (x : NamedTrace) → All (TraceIsOver (sizes_of (model_of m))) (map named_trace_of m.traces.items) → i < length m.traces.items → x ≡ get_or m.traces.items i x → IsOfSpace (sizes m.space) x.lasso
-trace_fits m i x all inside is =
-    let P = λ (t : TraceForm). TraceIsOver (sizes_of (model_of m)) t in
-    let here = subst (λ (y : NamedTrace). P (named_trace_of y)) (sym is) (All-get_or (λ (y : NamedTrace). P (named_trace_of y)) m.traces.items i x inside (All-unmap P named_trace_of m.traces.items all)) in
-    let fit = λ (states : List State) (h : All (ValuesFit (sizes_of (model_of m))) (rows states)). subst (λ ss. AllFit ss states) (sizes_same m) (All-unmap (ValuesFit (sizes_of (model_of m))) (λ s. s.values.items) states h) in
+pub trace_fits : (ns : List ℕ) (xs : List NamedTrace) (i : ℕ) (x : NamedTrace) → All (TraceIsOver ns) (map trace_of xs) → i < length xs → x ≡ get_or xs i x → IsOfSpace ns x.lasso
+trace_fits ns xs i x all inside is =
+    let here = subst (λ (y : NamedTrace). TraceIsOver ns (trace_of y)) (sym is) (All-get_or (λ (y : NamedTrace). TraceIsOver ns (trace_of y)) xs i x inside (All-unmap (TraceIsOver ns) trace_of xs all)) in
+    let fit = λ (states : List State) (h : All (ValuesFit ns) (rows states)). All-unmap (ValuesFit ns) (λ s. s.values.items) states h in
     (fit x.lasso.prefix.items here.prefix, fit x.lasso.cycle.items here.cycle)
 
 -- ---- truths
-AreTruthsOn-push : (t : Trace) (gs : List NamedFormula) (bs : List Bool) (g : NamedFormula) (b : Bool) → AreTruthsOn t gs bs → (IsTrue b ↔ Truth t g.formula 0) → AreTruthsOn t (gs ++ g ∷ []) (bs ++ b ∷ [])
+AreTruthsOn-push : (t : Trace) (gs : List GoalForm) (bs : List Bool) (g : GoalForm) (b : Bool) → AreTruthsOn t gs bs → (IsTrue b ↔ Truth t g.formula 0) → AreTruthsOn t (gs ++ g ∷ []) (bs ++ b ∷ [])
 AreTruthsOn-push t [] [] g b all one = (one, tt)
 AreTruthsOn-push t [] (c ∷ bs) g b all one = absurd all
 AreTruthsOn-push t (h ∷ gs) [] g b all one = absurd all
@@ -49,22 +46,22 @@ truths_more t xs bs cs i x b inside is all one pushed =
     ap (map goal_of) (take_more xs i x inside ∙ ap (λ (y : Goal). take i xs ++ y ∷ []) (sym is)) ∙ map-append goal_of (take i xs) (x ∷ []) in
     rw (front, pushed) (AreTruthsOn-push t (map goal_of (take i xs)) bs (goal_of x) b all one)
 
-AreTruthRows-push : (goals : List NamedFormula) (ts : List TraceForm) (rows : List (List Bool)) (t : TraceForm) (row : List Bool) → AreTruthRows goals ts rows → AreTruthsOn (from_lists t.prefix t.cycle) goals row → AreTruthRows goals (ts ++ t ∷ []) (rows ++ row ∷ [])
+AreTruthRows-push : (goals : List GoalForm) (ts : List TraceForm) (rows : List (List Bool)) (t : TraceForm) (row : List Bool) → AreTruthRows goals ts rows → AreTruthsOn (from_lists t.prefix t.cycle) goals row → AreTruthRows goals (ts ++ t ∷ []) (rows ++ row ∷ [])
 AreTruthRows-push goals [] [] t row all one = (one, tt)
 AreTruthRows-push goals [] (r ∷ rows) t row all one = absurd all
 AreTruthRows-push goals (u ∷ ts) [] t row all one = absurd all
 AreTruthRows-push goals (u ∷ ts) (r ∷ rows) t row all one = (all.0, AreTruthRows-push goals ts rows t row all.1 one)
 
 -- one trace further
-pub rows_more : (goals : List NamedFormula) (xs : List NamedTrace) (rows others : List (Vec Bool Global)) (i : ℕ) (x : NamedTrace) (row : Vec Bool Global) → i < length xs → x ≡ get_or xs i x
-    → AreTruthRows goals (map named_trace_of (take i xs)) (map (λ (r : Vec Bool Global). r.items) rows) → AreTruthsOn (from_lists (named_trace_of x).prefix (named_trace_of x).cycle) goals row.items → others ≡ rows ++ row ∷ []
-    → AreTruthRows goals (map named_trace_of (take (i + 1) xs)) (map (λ (r : Vec Bool Global). r.items) others)
+pub rows_more : (goals : List GoalForm) (xs : List NamedTrace) (rows others : List (Vec Bool Global)) (i : ℕ) (x : NamedTrace) (row : Vec Bool Global) → i < length xs → x ≡ get_or xs i x
+    → AreTruthRows goals (map trace_of (take i xs)) (map (λ (r : Vec Bool Global). r.items) rows) → AreTruthsOn (from_lists (trace_of x).prefix (trace_of x).cycle) goals row.items → others ≡ rows ++ row ∷ []
+    → AreTruthRows goals (map trace_of (take (i + 1) xs)) (map (λ (r : Vec Bool Global). r.items) others)
 rows_more goals xs rows others i x row inside is all one pushed =
-    let front : map named_trace_of (take (i + 1) xs) ≡ map named_trace_of (take i xs) ++ named_trace_of x ∷ [] =
-    ap (map named_trace_of) (take_more xs i x inside ∙ ap (λ (y : NamedTrace). take i xs ++ y ∷ []) (sym is)) ∙ map-append named_trace_of (take i xs) (x ∷ []) in
+    let front : map trace_of (take (i + 1) xs) ≡ map trace_of (take i xs) ++ trace_of x ∷ [] =
+    ap (map trace_of) (take_more xs i x inside ∙ ap (λ (y : NamedTrace). take i xs ++ y ∷ []) (sym is)) ∙ map-append trace_of (take i xs) (x ∷ []) in
     let back : map (λ (r : Vec Bool Global). r.items) others ≡ map (λ (r : Vec Bool Global). r.items) rows ++ row.items ∷ [] =
     ap (map (λ (r : Vec Bool Global). r.items)) pushed ∙ map-append (λ (r : Vec Bool Global). r.items) rows (row ∷ []) in
-    rw (front, back) (AreTruthRows-push goals (map named_trace_of (take i xs)) (map (λ (r : Vec Bool Global). r.items) rows) (named_trace_of x) row.items all one)
+    rw (front, back) (AreTruthRows-push goals (map trace_of (take i xs)) (map (λ (r : Vec Bool Global). r.items) rows) (trace_of x) row.items all one)
 
 -- ---- lines
 from_here : {A : Type 0} (xs : List A) (i : ℕ) (x : A) → i < length xs → x ≡ get_or xs i x → drop i xs ≡ x ∷ drop (i + 1) xs
@@ -74,7 +71,7 @@ pub lines_next : (t : List ℕ) (xs : List Goal) (bs : List Bool) (i : ℕ) (x :
     → lines_on t (map goal_of (drop i xs)) (drop i bs) ≡ truth_line t (goal_of x).name b ++ lines_on t (map goal_of (drop (i + 1) xs)) (drop (i + 1) bs)
 lines_next t xs bs i x b inside is within at = rw (from_here xs i x inside is, from_here bs i b within at) refl
 
-no_lines : (t : List ℕ) (gs : List NamedFormula) → lines_on t gs [] ≡ []
+no_lines : (t : List ℕ) (gs : List GoalForm) → lines_on t gs [] ≡ []
 no_lines t [] = refl
 no_lines t (g ∷ gs) = refl
 
@@ -86,19 +83,19 @@ lines_end t (x ∷ xs) [] (suc i) l = no_lines t (map goal_of (drop i xs))
 lines_end t (x ∷ xs) (b ∷ bs) zero l = let never : ⊥ = omega arith in absurd never
 lines_end t (x ∷ xs) (b ∷ bs) (suc i) l = lines_end t xs bs i (omega arith)
 
-pub rows_next : (goals : List NamedFormula) (xs : List NamedTrace) (rows : List (Vec Bool Global)) (i : ℕ) (x : NamedTrace) (row : Vec Bool Global) → i < length xs → x ≡ get_or xs i x → i < length rows → row ≡ get_or rows i row
-    → row_lines goals (map named_trace_of (drop i xs)) (map (λ (r : Vec Bool Global). r.items) (drop i rows))
-    ≡ lines_on (named_trace_of x).name goals row.items ++ row_lines goals (map named_trace_of (drop (i + 1) xs)) (map (λ (r : Vec Bool Global). r.items) (drop (i + 1) rows))
+pub rows_next : (goals : List GoalForm) (xs : List NamedTrace) (rows : List (Vec Bool Global)) (i : ℕ) (x : NamedTrace) (row : Vec Bool Global) → i < length xs → x ≡ get_or xs i x → i < length rows → row ≡ get_or rows i row
+    → row_lines goals (map trace_of (drop i xs)) (map (λ (r : Vec Bool Global). r.items) (drop i rows))
+    ≡ lines_on (trace_of x).name goals row.items ++ row_lines goals (map trace_of (drop (i + 1) xs)) (map (λ (r : Vec Bool Global). r.items) (drop (i + 1) rows))
 rows_next goals xs rows i x row inside is within at = rw (from_here xs i x inside is, from_here rows i row within at) refl
 
-no_rows : (goals : List NamedFormula) (ts : List TraceForm) → row_lines goals ts [] ≡ []
+no_rows : (goals : List GoalForm) (ts : List TraceForm) → row_lines goals ts [] ≡ []
 no_rows goals [] = refl
 no_rows goals (t ∷ ts) = refl
 
-pub rows_end : (goals : List NamedFormula) (xs : List NamedTrace) (rows : List (Vec Bool Global)) (i : ℕ) → min (length xs) (length rows) ≤ i → row_lines goals (map named_trace_of (drop i xs)) (map (λ (r : Vec Bool Global). r.items) (drop i rows)) ≡ []
+pub rows_end : (goals : List GoalForm) (xs : List NamedTrace) (rows : List (Vec Bool Global)) (i : ℕ) → min (length xs) (length rows) ≤ i → row_lines goals (map trace_of (drop i xs)) (map (λ (r : Vec Bool Global). r.items) (drop i rows)) ≡ []
 rows_end goals [] rows zero l = refl
 rows_end goals [] rows (suc i) l = refl
 rows_end goals (x ∷ xs) [] zero l = refl
-rows_end goals (x ∷ xs) [] (suc i) l = no_rows goals (map named_trace_of (drop i xs))
+rows_end goals (x ∷ xs) [] (suc i) l = no_rows goals (map trace_of (drop i xs))
 rows_end goals (x ∷ xs) (r ∷ rows) zero l = let never : ⊥ = omega arith in absurd never
 rows_end goals (x ∷ xs) (r ∷ rows) (suc i) l = rows_end goals xs rows i (omega arith)

@@ -1,35 +1,40 @@
 -- What is answered to the bytes of a text under each command.
-use Rattle.std.specs.Prelude.{ℕ, ◌<◌, ◌≤◌, ◌^◌, Bool, List, length, vec_len, Option, Some, None}
+use Rattle.std.specs.Prelude.{◌≡◌, ℕ, ◌<◌, ◌≤◌, Bool, List, length, Option, Some, None}
 use Rattle.model_text.specs.declared.text.TextRefusal.{TextRefusal}
-use Rattle.model_text.specs.Statements.{StatementForm}
+use Rattle.model_text.specs.Statements.{StatementForm, statements_of}
 use Rattle.model_text.specs.Readability.{IsReadable, Refuses}
-use Rattle.goal_model.specs.declared.resolution.ModelRefusal.{ModelRefusal}
+use Rattle.goal_model.specs.declared.refusal.RefusalKind.{RefusalKind}
 use Rattle.goal_model.specs.Models.{ModelForm}
-use Rattle.goal_model.specs.Resolution.{IsModel, RefusesModel}
-use Rattle.goal_model.specs.Models.{model_of, IsWellFormed}
-use Rattle.model_text.specs.Statements.{statements_of}
+use Rattle.goal_model.specs.ModelViews.{model_of}
+use Rattle.goal_model.specs.Resolution.{made, refuses, outcome_of}
 use Rattle.kaos_program.specs.declared.answer.Reading.{Reading}
 use Rattle.kaos_program.specs.declared.answer.Reading.TheVariants.{Accepted, Refused}
 use Rattle.kaos_program.specs.declared.command.Command.{Command}
 use Rattle.kaos_program.specs.declared.command.Command.TheVariants.{Check, Trace}
 use Rattle.kaos_program.specs.declared.report.Report.{Report}
+use Rattle.kaos_program.specs.Unanswered.{first_unanswered}
 use Rattle.kaos_program.specs.Reports.{Reports, status_of}
 use Rattle.kaos_program.specs.Truths.{AreTruths, status_of_truths}
-use Rattle.kaos_program.specs.Texts.{too_long_text, text_refusal, model_refusal, report_text, truths_text}
+use Rattle.kaos_program.specs.Texts.{too_long_text, text_refusal, model_refusal, not_built, report_text, truths_text}
 
--- the bytes are within their limit and spell these statements, which make this model
+-- the bytes are within their limit and spell these statements, which make this model, and the demands of all its links are answered
 pub record IsAccepted (bytes : List ℕ) (statements : List StatementForm) (m : ModelForm) : Type 0 where
   pub size : length bytes ≤ 1048576
   pub readable : IsReadable bytes statements
-  pub made : IsModel statements m
+  pub made : outcome_of statements ≡ made m
+  pub answered : first_unanswered m.links ≡ None
 
--- the line for a text that makes no model: it is too long, it has no statements, or these make none
+-- the line for a text that is not accepted: it is too long, it has no statements, these make no model, or the demands of a link are not
+-- answered yet
 pub data IsRefused (bytes : List ℕ) : List ℕ → Type 0 where
   too_long : 1048576 < length bytes → IsRefused bytes too_long_text
   a_text : (e : TextRefusal) → length bytes ≤ 1048576 → Refuses bytes e → IsRefused bytes (text_refusal e)
-  its_statements : (ss : List StatementForm) (e : ModelRefusal) → length bytes ≤ 1048576 → IsReadable bytes ss → RefusesModel ss e → IsRefused bytes (model_refusal e)
+  its_statements : (ss : List StatementForm) (kind : RefusalKind) (statement : ℕ) (name : List ℕ) → length bytes ≤ 1048576 → IsReadable bytes ss
+      → outcome_of ss ≡ refuses kind statement name → IsRefused bytes (model_refusal kind statement name)
+  a_link : (ss : List StatementForm) (m : ModelForm) (statement : ℕ) → length bytes ≤ 1048576 → IsReadable bytes ss → outcome_of ss ≡ made m
+      → first_unanswered m.links ≡ Some statement → IsRefused bytes (not_built statement)
 
--- the status, the report and the output that bytes have under a command: a text that makes no model is refused; else there is the report
+-- the status, the report and the output that bytes have under a command: a text that is not accepted is refused; else there is the report
 -- that answers each demand, or the truth of each goal on each trace
 pub data Answers (bytes : List ℕ) : Command → ℕ → Option Report → List ℕ → Type 0 where
   a_refusal : (command : Command) (line : List ℕ) → IsRefused bytes line → Answers bytes command 2 None line
@@ -40,5 +45,5 @@ pub data Answers (bytes : List ℕ) : Command → ℕ → Option Report → List
 
 -- what the bytes come to before any command: their statements and the model of these, or the line of a refusal
 abbrev pub ReadsTo : List ℕ → Reading → Type 0
-ReadsTo bytes (Accepted raw model) = IsAccepted bytes (statements_of raw) (model_of model) × IsWellFormed (model_of model) × (vec_len raw.statements < 2 ^ 32)
+ReadsTo bytes (Accepted raw model) = IsAccepted bytes (statements_of raw) (model_of model)
 ReadsTo bytes (Refused line) = IsRefused bytes line.items

@@ -1,4 +1,5 @@
 pub mod Commands
+pub mod Unanswered
 pub mod Demands
 pub mod Reports
 pub mod Truths

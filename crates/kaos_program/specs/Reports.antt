@@ -1,17 +1,17 @@
 -- When a report is right, and the status that it gives.
-use Rattle.std.specs.Prelude.{◌≡◌, ℕ, List, [], ◌∷◌, count_by, slice_index_or, Bool, true, false, if◌then◌else◌, ◌==◌, map}
+use Rattle.std.specs.Prelude.{◌≡◌, ℕ, List, [], ◌∷◌, count_by, Bool, true, false, if◌then◌else◌, ◌==◌}
+use Rattle.std.specs.List.{flat_map}
 use Rattle.temporal_logic.specs.Ltl.{Ltl}
 use Rattle.temporal_logic.specs.Truth.{Meets}
 use Rattle.temporal_logic.specs.Lassos.{trace_of, IsOfSpace}
-use Rattle.kaos_program.specs.declared.report.LabelKind.TheVariants.{Complete}
 use Rattle.kaos_program.specs.declared.report.Verdict.{Verdict}
 use Rattle.kaos_program.specs.declared.report.Verdict.TheVariants.{Holds, Fails, Withheld}
 use Rattle.kaos_program.specs.declared.report.Evidence.{Evidence}
 use Rattle.kaos_program.specs.declared.report.Evidence.TheVariants.{Nothing, Elimination, Trace}
 use Rattle.kaos_program.specs.declared.report.Entry.{Entry}
 use Rattle.kaos_program.specs.declared.report.Report.{Report}
-use Rattle.goal_model.specs.Models.{LinkForm, ModelForm, sizes_of}
-use Rattle.goal_model.specs.Demands.{complete_list}
+use Rattle.goal_model.specs.Models.{LinkForm, refine, ModelForm, sizes_of}
+use Rattle.goal_model.specs.Items.{ItemForm, label_of, complete_item, list_of}
 use Rattle.bound_unfolding.specs.CoreForm.{CoreForm}
 use Rattle.bound_unfolding.specs.CoreLists.{cores_of}
 use Rattle.tableau_rules.specs.Certificates.{IsValid}
@@ -33,28 +33,27 @@ IsRight m budget list Fails (Trace l) = IsOfSpace (sizes_of m) l × Meets (trace
 IsRight m budget list (Withheld number) Nothing = (number ≡ budget) × IsLarger (sizes_of m) (query_cores m list) budget
 IsRight m budget list _ _ = ⊥
 
--- the name of a goal, by its place
-abbrev pub goal_name : ModelForm → ℕ → List ℕ
-goal_name m place = slice_index_or (map (λ g. g.name) m.goals) place []
+-- an entry answers an item that is to have no trace, and is right
+pub record IsEntry (m : ModelForm) (budget : ℕ) (item : ItemForm) (entry : Entry) : Type 0 where
+  pub label : label_of entry.label ≡ item.label
+  pub right : IsRight m budget (list_of m item.parts) entry.verdict entry.evidence
 
--- an entry answers the complete demand of a refinement, and is right
-pub record IsEntry (m : ModelForm) (budget : ℕ) (link : LinkForm) (entry : Entry) : Type 0 where
-  pub kind : entry.label.kind ≡ Complete
-  pub statement : entry.label.statement ≡ link.statement
-  pub names : entry.label.names.items ≡ goal_name m link.parent ∷ []
-  pub right : IsRight m budget (complete_list m link) entry.verdict entry.evidence
-
--- one entry for each link, in order
-abbrev pub AreEntries : ModelForm → ℕ → List LinkForm → List Entry → Type 0
+-- one entry for each item, in order
+abbrev pub AreEntries : ModelForm → ℕ → List ItemForm → List Entry → Type 0
 AreEntries m budget [] [] = Unit {0}
 AreEntries m budget [] (e ∷ es) = ⊥
-AreEntries m budget (l ∷ ls) [] = ⊥
-AreEntries m budget (l ∷ ls) (e ∷ es) = IsEntry m budget l e × AreEntries m budget ls es
+AreEntries m budget (i ∷ is) [] = ⊥
+AreEntries m budget (i ∷ is) (e ∷ es) = IsEntry m budget i e × AreEntries m budget is es
 
--- the report answers each demand of the model, under the budget that no words change yet
+-- the items of a link that are answered: whether a refinement is complete
+abbrev pub complete_items : ModelForm → LinkForm → List ItemForm
+complete_items m (refine statement parent subgoals pattern) = complete_item m statement parent subgoals ∷ []
+complete_items m link = []
+
+-- the report answers these items of each link of the model, under the budget that no words change yet
 pub record Reports (m : ModelForm) (report : Report) : Type 0 where
   pub budget : report.budget ≡ 20000
-  pub entries : AreEntries m report.budget m.links report.entries.items
+  pub entries : AreEntries m report.budget (flat_map (complete_items m) m.links) report.entries.items
 
 -- the demand is met: no trace breaks it
 abbrev pub is_held : Verdict → Bool

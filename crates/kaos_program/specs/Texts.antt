@@ -7,9 +7,6 @@ use Rattle.tableau_rules.specs.CertView.{cert_of}
 use Rattle.elimination_cert.specs.CertTexts.{cert_text}
 use Rattle.temporal_logic.specs.Rows.{rows}
 use Rattle.temporal_logic.specs.declared.lasso.Lasso.{Lasso}
-use Rattle.kaos_program.specs.declared.report.LabelKind.{LabelKind}
-use Rattle.kaos_program.specs.declared.report.LabelKind.TheVariants.{Complete}
-use Rattle.kaos_program.specs.declared.report.Label.{Label}
 use Rattle.kaos_program.specs.declared.report.Verdict.{Verdict}
 use Rattle.kaos_program.specs.declared.report.Verdict.TheVariants.{Holds, Fails, Withheld}
 use Rattle.kaos_program.specs.declared.report.Evidence.{Evidence}
@@ -17,28 +14,16 @@ use Rattle.kaos_program.specs.declared.report.Evidence.TheVariants.{Nothing, Eli
 use Rattle.kaos_program.specs.declared.report.Entry.{Entry}
 use Rattle.kaos_program.specs.declared.report.Report.{Report}
 use Rattle.kaos_program.specs.Reports.{held_count, failed_count, withheld_count}
-use Rattle.goal_model.specs.declared.resolution.ModelRefusal.{ModelRefusal}
-use Rattle.goal_model.specs.declared.resolution.ModelRefusal.TheVariants.{NotBuilt, Unresolved}
-use Rattle.goal_model.specs.declared.resolution.ModelRefusal.TheVariants as model_refusals
-use Rattle.goal_model.specs.Models.{NamedFormula, TraceForm, ModelForm}
+use Rattle.goal_model.specs.declared.refusal.RefusalKind.{RefusalKind}
+use Rattle.goal_model.specs.declared.refusal.RefusalKind.TheVariants.{DuplicateName, UnknownName, WrongKind, BadValue, BadRange, LongName, TooManyVars, TooWide, NotState, TwoControllers, Cycle, TooLarge}
+use Rattle.goal_model.specs.Models.{GoalForm, TraceForm, ModelForm}
+use Rattle.goal_model.specs.Items.{label_of}
+use Rattle.goal_model.specs.Labels.{label_text}
 use Rattle.model_text.specs.declared.limits.LimitKind.{LimitKind}
 use Rattle.model_text.specs.declared.limits.LimitKind.TheVariants.{Operators, Statements, Links, Parts, NameLength, Number, Bound, Depth}
 use Rattle.model_text.specs.declared.text.TextRefusal.{TextRefusal}
 use Rattle.model_text.specs.declared.text.TextRefusal.TheVariants.{BadByte, Limit, Syntax}
 use Rattle.model_text.specs.declared.text.TextRefusal.TheVariants as text_refusals
-
--- what is asked of a refinement, as a word
-abbrev pub kind_text : LabelKind → List ℕ
-kind_text Complete = codes "complete"
-
--- ` NAME` of each name of a label
-abbrev pub names_text : List (List ℕ) → List ℕ
-names_text [] = []
-names_text (x ∷ xs) = codes " " ++ x ++ names_text xs
-
--- `refine S G complete`
-abbrev pub label_text : Label → List ℕ
-label_text label = codes "refine " ++ decimal label.statement ++ names_text label.names.items ++ codes " " ++ kind_text label.kind
 
 -- `holds`, `fails`, or `withheld at BUDGET`
 abbrev pub verdict_text : Verdict → List ℕ
@@ -79,7 +64,7 @@ evidence_text names ranges (Trace l) = lasso_text names ranges l
 
 -- a verdict line, and the evidence
 unfoldable pub entry_text : List (List ℕ) → List RangeForm → Entry → List ℕ
-entry_text names ranges e = label_text e.label ++ codes ": " ++ verdict_text e.verdict ++ codes "\n" ++ evidence_text names ranges e.evidence
+entry_text names ranges e = label_text (label_of e.label) ++ codes ": " ++ verdict_text e.verdict ++ codes "\n" ++ evidence_text names ranges e.evidence
 
 -- `total: H hold, F fail, W withheld`, and a line feed
 unfoldable pub total_text : ℕ → ℕ → ℕ → List ℕ
@@ -98,13 +83,13 @@ abbrev pub truth_line : (trace goal : List ℕ) → Bool → List ℕ
 truth_line x g b = codes "trace " ++ x ++ codes " " ++ g ++ codes ": " ++ (if b then codes "true" else codes "false") ++ codes "\n"
 
 -- a line for each goal, of the truth that the row has for it
-abbrev pub lines_on : List ℕ → List NamedFormula → List Bool → List ℕ
+abbrev pub lines_on : List ℕ → List GoalForm → List Bool → List ℕ
 lines_on x [] bs = []
 lines_on x (g ∷ gs) [] = []
 lines_on x (g ∷ gs) (b ∷ bs) = truth_line x g.name b ++ lines_on x gs bs
 
 -- the lines of each trace, which has a row of its own
-abbrev pub row_lines : List NamedFormula → List TraceForm → List (List Bool) → List ℕ
+abbrev pub row_lines : List GoalForm → List TraceForm → List (List Bool) → List ℕ
 row_lines goals [] rows = []
 row_lines goals (t ∷ ts) [] = []
 row_lines goals (t ∷ ts) (row ∷ rows) = lines_on t.name goals row ++ row_lines goals ts rows
@@ -133,15 +118,32 @@ text_refusal (Limit kind) = codes "refused: limit " ++ limit_name kind ++ codes 
 text_refusal (Syntax at) = codes "refused: syntax at byte " ++ decimal at ++ codes "\n"
 text_refusal text_refusals.Memory = []
 
--- `refused: statement NUMBER: KIND`, and a line feed; statements are counted from 1
-abbrev pub statement_refusal : ℕ → List ℕ → List ℕ
-statement_refusal number kind = codes "refused: statement " ++ decimal number ++ codes ": " ++ kind ++ codes "\n"
+-- the word by which a line of refusal names what is wrong with a statement
+abbrev pub kind_name : RefusalKind → List ℕ
+kind_name DuplicateName = codes "DuplicateName"
+kind_name UnknownName = codes "UnknownName"
+kind_name WrongKind = codes "WrongKind"
+kind_name BadValue = codes "BadValue"
+kind_name BadRange = codes "BadRange"
+kind_name LongName = codes "LongName"
+kind_name TooManyVars = codes "TooManyVars"
+kind_name TooWide = codes "TooWide"
+kind_name NotState = codes "NotState"
+kind_name TwoControllers = codes "TwoControllers"
+kind_name Cycle = codes "Cycle"
+kind_name TooLarge = codes "TooLarge"
 
--- the line for statements that make no model; for want of memory nothing is written
-abbrev pub model_refusal : ModelRefusal → List ℕ
-model_refusal (NotBuilt number) = statement_refusal number (codes "NotBuilt")
-model_refusal (Unresolved number) = statement_refusal number (codes "Unresolved")
-model_refusal model_refusals.Memory = []
+-- `refused: statement NUMBER: WORDS`, and a line feed; statements are counted from 1
+abbrev pub statement_refusal : ℕ → List ℕ → List ℕ
+statement_refusal number words = codes "refused: statement " ++ decimal number ++ codes ": " ++ words ++ codes "\n"
+
+-- the line for statements that make no model: what is wrong, and the name at which it is
+abbrev pub model_refusal : RefusalKind → ℕ → List ℕ → List ℕ
+model_refusal kind statement name = statement_refusal statement (kind_name kind ++ codes " " ++ name)
+
+-- the line for a link whose demands are not answered yet
+abbrev pub not_built : ℕ → List ℕ
+not_built statement = statement_refusal statement (codes "NotBuilt")
 
 -- what is written for words that are no command
 abbrev pub usage_text : List ℕ

@@ -1,22 +1,27 @@
 //! The answer to the bytes of a text: the status, the report and the output. It reads and writes nothing.
 
-ghost use Rattle.std.specs.Prelude.{◌≡◌, ◌⊎◌, ◌≤◌, ◌<◌, ℕ, List, None, length, map, All, IfOk};
+ghost use Rattle.std.specs.Prelude.{◌≡◌, ◌⊎◌, ◌≤◌, ◌<◌, ℕ, List, All, None, length, vec_len, map, IfOk};
 ghost use Rattle.std.specs.List.{list_all};
-ghost use Rattle.model_text.specs.Statements.{StatementForm};
-ghost use Rattle.goal_model.specs.Models.{model_of, IsWellFormed};
-ghost use Rattle.goal_model.specs.Demands.{IsAnswerable};
+ghost use Rattle.model_text.specs.Statements.{StatementForm, statements_of};
+ghost use Rattle.model_text.specs.Readability.{IsReadable};
+ghost use Rattle.goal_model.specs.ModelViews.{model_of};
+ghost use Rattle.goal_model.specs.WholeDrafts.{IsShallow};
+ghost use Rattle.goal_model.specs.Resolution.{made, outcome_of};
+ghost use Rattle.goal_model.specs.Outcomes.{Refuses};
+ghost use Rattle.kaos_program.specs.Unanswered.{first_unanswered as first_unanswered_form};
 ghost use Rattle.kaos_program.specs.Answering.{IsAccepted, ReadsTo, Answers};
 ghost use Rattle.kaos_program.specs.Reports.{status_of as status_of_report};
 ghost use Rattle.kaos_program.specs.Truths.{status_of_truths as status_of_rows};
 
 use crate::command::Command;
 use crate::demand::report;
-use crate::refusal_text::{model_refusal, text_refusal};
+use crate::refusal_text::{model_refusal, not_built, text_refusal};
 use crate::report::Report;
 use crate::text::{counts, report_text};
 use crate::truths::truths;
 use crate::truths_text::truths_text;
-use goal_model::{Model, resolve};
+use crate::unanswered::first_unanswered;
+use goal_model::{Model, ModelRefusal, resolve};
 use model_text::{RawModel, read_model};
 use source_sink::Memory;
 use std::alloc::Global;
@@ -52,18 +57,52 @@ fn refused(line: Vec<u8>) -> Due
     }
 }
 
+// The model of statements, unless a link of it has demands that are not answered yet.
+fn accepted(alloc: Global, raw: RawModel, model: Model) -> Result<Reading, Memory>
+    ensures read { (bytes : List ℕ) → length bytes ≤ MOST_BYTES → IsReadable bytes (statements_of raw) → outcome_of (statements_of raw) ≡ made (model_of model)
+        → IfOk result (ReadsTo bytes) }
+{
+    match first_unanswered(model.links()) {
+        Some(statement) => Ok(Reading::Refused(not_built(alloc, statement)?)),
+        None => Ok(Reading::Accepted(raw, model)),
+    }
+}
+
+// The line for statements that make no model. Want of memory is no such cause, and comes back as an error.
+fn refused_statements(alloc: Global, refusal: ModelRefusal) -> Result<Reading, Memory>
+    ensures read { (bytes : List ℕ) (ss : List StatementForm) → length bytes ≤ MOST_BYTES → IsReadable bytes ss → Refuses refusal (outcome_of ss)
+        → IfOk result (ReadsTo bytes) }
+{
+    match refusal {
+        ModelRefusal::Refused {
+            kind,
+            statement,
+            name,
+        } => Ok(Reading::Refused(model_refusal(alloc, kind, statement, &name)?)),
+        ModelRefusal::Memory => Err(Memory),
+    }
+}
+
+// Looks for the model of statements.
+fn resolved(alloc: Global, raw: RawModel) -> Result<Reading, Memory>
+    requires few { vec_len raw.statements ≤ 2000 }
+    requires shallow { All IsShallow (statements_of raw) }
+    ensures read { (bytes : List ℕ) → length bytes ≤ MOST_BYTES → IsReadable bytes (statements_of raw) → IfOk result (ReadsTo bytes) }
+{
+    match resolve(alloc, &raw) {
+        Ok(model) => accepted(alloc, raw, model),
+        Err(refusal) => refused_statements(alloc, refusal),
+    }
+}
+
 // Looks for the model of bytes within the limit.
 fn read(alloc: Global, bytes: &[u8]) -> Result<Reading, Memory>
     requires { length bytes.now ≤ MOST_BYTES }
     ensures read { IfOk result (λ reading. ReadsTo bytes.now reading) }
 {
-    let raw = match read_model(alloc, bytes) {
-        Ok(raw) => raw,
-        Err(refusal) => return Ok(Reading::Refused(text_refusal(alloc, refusal)?)),
-    };
-    match resolve(alloc, &raw) {
-        Ok(model) => Ok(Reading::Accepted(raw, model)),
-        Err(refusal) => Ok(Reading::Refused(model_refusal(alloc, refusal)?)),
+    match read_model(alloc, bytes) {
+        Ok(raw) => resolved(alloc, raw),
+        Err(refusal) => Ok(Reading::Refused(text_refusal(alloc, refusal)?)),
     }
 }
 
@@ -82,14 +121,13 @@ fn status_of(report: &Report) -> u8
 
 // The report on a model.
 fn check<A: Answerer>(alloc: Global, answerer: &A, model: &Model) -> Result<Due, Memory>
-    requires answerable { All (IsAnswerable (model_of model.now)) (model_of model.now).links }
-    requires well_formed { IsWellFormed (model_of model.now) }
+    requires built { first_unanswered_form (model_of model.now).links ≡ None }
     ensures answered { (bytes : List ℕ) (ss : List StatementForm) → IsAccepted bytes ss (model_of model.now)
         → IfOk result (λ a. Answers bytes Command.Check a.status a.report a.output.items) }
     ensures status { IfOk result (λ a. (a.status < 3) ⊎ (a.status ≡ 6)) }
 {
     let report = report(alloc, answerer, model)?;
-    let output = report_text(alloc, &model.space, &report)?;
+    let output = report_text(alloc, model.space(), &report)?;
     Ok(Due {
         status: status_of(&report),
         report: Some(report),
@@ -116,7 +154,6 @@ fn status_of_truths(rows: &[Vec<bool>]) -> u8
 
 // The truth of each goal on each trace of a model.
 fn trace(alloc: Global, model: &Model) -> Result<Due, Memory>
-    requires well_formed { IsWellFormed (model_of model.now) }
     ensures answered { (bytes : List ℕ) (ss : List StatementForm) → IsAccepted bytes ss (model_of model.now)
         → IfOk result (λ a. Answers bytes Command.Trace a.status a.report a.output.items) }
     ensures status { IfOk result (λ a. a.status < 3) }

@@ -11,7 +11,8 @@ mod running;
 mod text;
 mod truths;
 mod truths_text;
+mod unanswered;
 
 pub use command::Command;
-pub use report::{Entry, Evidence, Label, LabelKind, Report, Verdict};
+pub use report::{Entry, Evidence, Report, Verdict};
 pub use running::{Outcome, Status, run};

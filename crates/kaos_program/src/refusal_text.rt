@@ -3,11 +3,12 @@
 //! specs/Texts.antt and in docs/LANGUAGE.md.
 
 ghost use Rattle.std.specs.Prelude.{◌≡◌, ◌++◌, codes, decimal, IfOk};
-ghost use Rattle.kaos_program.specs.Texts.{limit_name as limit_name_of, text_refusal as text_refusal_of, model_refusal as model_refusal_of, statement_refusal as statement_refusal_of};
+ghost use Rattle.kaos_program.specs.Texts.{limit_name as limit_name_of, kind_name as kind_name_of, text_refusal as text_refusal_of, statement_refusal as statement_refusal_of, model_refusal as model_refusal_of, not_built as not_built_of};
 
-use goal_model::ModelRefusal;
+use goal_model::RefusalKind;
 use model_text::{LimitKind, TextRefusal};
 use source_sink::{Memory, put, put_decimal};
+use state_space::Name;
 use std::alloc::Global;
 
 fn limit_name(kind: LimitKind) -> &'static [u8]
@@ -59,27 +60,57 @@ pub(crate) fn text_refusal(alloc: Global, refusal: TextRefusal) -> Result<Vec<u8
     }
 }
 
-/// The line for a statement, by its number from 1 and the word for what is wrong with it.
-pub(crate) fn statement_refusal(alloc: Global, number: u32, kind: &[u8]) -> Result<Vec<u8>, Memory>
-    ensures { IfOk result (λ line. line.items ≡ statement_refusal_of number kind.now) }
+fn kind_name(kind: RefusalKind) -> &'static [u8]
+    ensures { result.now ≡ kind_name_of kind }
+{
+    match kind {
+        RefusalKind::DuplicateName => b"DuplicateName",
+        RefusalKind::UnknownName => b"UnknownName",
+        RefusalKind::WrongKind => b"WrongKind",
+        RefusalKind::BadValue => b"BadValue",
+        RefusalKind::BadRange => b"BadRange",
+        RefusalKind::LongName => b"LongName",
+        RefusalKind::TooManyVars => b"TooManyVars",
+        RefusalKind::TooWide => b"TooWide",
+        RefusalKind::NotState => b"NotState",
+        RefusalKind::TwoControllers => b"TwoControllers",
+        RefusalKind::Cycle => b"Cycle",
+        RefusalKind::TooLarge => b"TooLarge",
+    }
+}
+
+// The line for a statement, by its number from 1 and the words for what is wrong with it.
+fn statement_refusal(alloc: Global, number: u32, words: &[u8]) -> Result<Vec<u8>, Memory>
+    ensures { IfOk result (λ line. line.items ≡ statement_refusal_of number words.now) }
 {
     let mut line = Vec::new(alloc);
     put(&mut line, b"refused: statement ")?;
     put_decimal(&mut line, number as u64)?;
     put(&mut line, b": ")?;
-    put(&mut line, kind)?;
+    put(&mut line, words)?;
     put(&mut line, b"\n")?;
     Ok(line)
 }
 
-/// The line for statements that make no model. Want of memory is no such cause, and comes back as an error.
-pub(crate) fn model_refusal(alloc: Global, refusal: ModelRefusal) -> Result<Vec<u8>, Memory>
-    ensures line { IfOk result (λ line. line.items ≡ model_refusal_of refusal) }
-    ensures cause { IfOk result (λ line. refusal ≡ ModelRefusal.Memory → ⊥) }
+/// The line for statements that make no model: what is wrong with one, its number from 1, and the name at which it is wrong.
+pub(crate) fn model_refusal(
+    alloc: Global,
+    kind: RefusalKind,
+    statement: u32,
+    name: &Name,
+) -> Result<Vec<u8>, Memory>
+    ensures { IfOk result (λ line. line.items ≡ model_refusal_of kind statement name.now) }
 {
-    match refusal {
-        ModelRefusal::NotBuilt(number) => statement_refusal(alloc, number, b"NotBuilt"),
-        ModelRefusal::Unresolved(number) => statement_refusal(alloc, number, b"Unresolved"),
-        ModelRefusal::Memory => Err(Memory),
-    }
+    let mut words = Vec::new(alloc);
+    put(&mut words, kind_name(kind))?;
+    put(&mut words, b" ")?;
+    put(&mut words, name.bytes())?;
+    statement_refusal(alloc, statement, &words)
+}
+
+/// The line for a link, by the number of its statement, whose demands are not answered yet.
+pub(crate) fn not_built(alloc: Global, statement: u32) -> Result<Vec<u8>, Memory>
+    ensures { IfOk result (λ line. line.items ≡ not_built_of statement) }
+{
+    statement_refusal(alloc, statement, b"NotBuilt")
 }

@@ -1,25 +1,9 @@
 //! Reports: an answer to each demand of a model, with its evidence, in the order of the links. When
-//! one is right, specs/Reports.antt says; a further kind of demand is a variant of `LabelKind`.
+//! one is right, specs/Reports.antt says.
 
-use state_space::Name;
+use goal_model::Label;
 use tableau_rules::Cert;
 use temporal_logic::Lasso;
-
-/// What a demand asks.
-#[derive(Clone, Copy, Debug, PartialEq, Eq)]
-pub enum LabelKind {
-    /// That a refinement is complete. Its name is that of the parent.
-    Complete,
-}
-
-/// What an entry of a report is about.
-#[derive(Debug, Drop)]
-pub struct Label {
-    pub kind: LabelKind,
-    /// The number of the link's statement, from 1.
-    pub statement: u32,
-    pub names: Vec<Name>,
-}
 
 /// The answer to a demand.
 #[derive(Clone, Copy, Debug, PartialEq, Eq)]

@@ -11,10 +11,11 @@ ghost use Rattle.temporal_logic.specs.Lassos.{IsOfSpace};
 ghost use Rattle.temporal_logic.specs.Rows.{rows, AllFit};
 ghost use Rattle.kaos_program.specs.Fitting.{EvidenceFits};
 ghost use Rattle.kaos_program.specs.Reports.{held_count, failed_count, withheld_count};
-ghost use Rattle.kaos_program.specs.Texts.{names_text, label_text, verdict_text, setting_text, values_text, state_text, lasso_text, indented, evidence_text, entry_text, total_text, report_text as text_of_report};
+ghost use Rattle.kaos_program.specs.Texts.{verdict_text, setting_text, values_text, state_text, lasso_text, indented, evidence_text, entry_text, total_text, report_text as text_of_report};
 
-use crate::report::{Entry, Evidence, Label, LabelKind, Report, Verdict};
+use crate::report::{Entry, Evidence, Report, Verdict};
 use elimination_cert::cert_text;
+use goal_model::label_text;
 use source_sink::{Memory, put, put_decimal};
 use state_space::{Name, Range, Space, State, VarId};
 use std::alloc::Global;
@@ -26,27 +27,6 @@ pub(crate) struct Totals {
     pub(crate) held: u64,
     pub(crate) failed: u64,
     pub(crate) withheld: u64,
-}
-
-fn put_names(out: &mut Vec<u8>, names: &[Name]) -> Result<(), Memory>
-    ensures { OnOk result (out.new.items ≡ out.old.items ++ names_text names.now) }
-{
-    'names: for name in names {
-        put(out, b" ")?;
-        put(out, name.bytes())?;
-    }
-    Ok(())
-}
-
-fn put_label(out: &mut Vec<u8>, label: &Label) -> Result<(), Memory>
-    ensures { OnOk result (out.new.items ≡ out.old.items ++ label_text label.now) }
-{
-    put(out, b"refine ")?;
-    put_decimal(out, label.statement as u64)?;
-    put_names(out, &label.names)?;
-    match label.kind {
-        LabelKind::Complete => put(out, b" complete"),
-    }
 }
 
 #[tactic(auto, unfolding(crate::specs::Texts::setting_text))]
@@ -151,7 +131,7 @@ fn put_entry(alloc: Global, out: &mut Vec<u8>, space: &Space, entry: &Entry) -> 
     requires { EvidenceFits (sizes space.now) entry.now.evidence }
     ensures { OnOk result (out.new.items ≡ out.old.items ++ entry_text (names space.now) (ranges space.now) entry.now) }
 {
-    put_label(out, &entry.label)?;
+    put(out, &label_text(alloc, &entry.label)?)?;
     put(out, b": ")?;
     put_verdict(out, entry.verdict)?;
     put(out, b"\n")?;

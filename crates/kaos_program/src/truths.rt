@@ -7,7 +7,8 @@ ghost use Rattle.temporal_logic.specs.Fits.{Fits};
 ghost use Rattle.temporal_logic.specs.Lassos.{trace_of, IsOfSpace};
 ghost use Rattle.temporal_logic.specs.Trees.{tree_of};
 ghost use Rattle.temporal_logic.specs.Truth.{Truth};
-ghost use Rattle.goal_model.specs.Models.{model_of, IsWellFormed};
+ghost use Rattle.goal_model.specs.Models.{sizes_of};
+ghost use Rattle.goal_model.specs.ModelViews.{model_of};
 ghost use Rattle.kaos_program.specs.Truths.{AreTruthsOn, AreTruths};
 
 use goal_model::Model;
@@ -34,24 +35,24 @@ pub(crate) fn is_true(
 
 // Whether each goal is true at the start of a lasso.
 fn truths_on(alloc: Global, model: &Model, lasso: &Lasso) -> Result<Vec<bool>, Memory>
-    requires well_formed { IsWellFormed (model_of model.now) }
-    requires of_space { IsOfSpace (sizes model.now.space) lasso.now }
+    requires of_space { IsOfSpace (sizes_of (model_of model.now)) lasso.now }
     ensures truths { IfOk result (λ row. AreTruthsOn (trace_of lasso.now) (model_of model.now).goals row.items) }
 {
+    let (space, goals) = (model.space(), model.goals());
     let mut row = Vec::new(alloc);
-    'goals: for goal in &model.goals {
-        row.push(is_true(alloc, &model.space, lasso, &goal.formula)?)?;
+    'goals: for goal in goals {
+        row.push(is_true(alloc, space, lasso, &goal.formula)?)?;
     }
     Ok(row)
 }
 
 /// The truth of each goal at the start of each trace: a list for each trace, with a truth value for each goal.
 pub(crate) fn truths(alloc: Global, model: &Model) -> Result<Vec<Vec<bool>>, Memory>
-    requires well_formed { IsWellFormed (model_of model.now) }
     ensures truths { IfOk result (λ rows. AreTruths (model_of model.now) (map (λ row. row.items) rows.items)) }
 {
+    let traces = model.traces();
     let mut rows = Vec::new(alloc);
-    'traces: for trace in &model.traces {
+    'traces: for trace in traces {
         rows.push(truths_on(alloc, model, &trace.lasso)?)?;
     }
     Ok(rows)

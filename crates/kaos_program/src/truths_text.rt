@@ -2,7 +2,8 @@
 //! traces and goals in statement order. The bytes are those of specs/Texts.antt.
 
 ghost use Rattle.std.specs.Prelude.{◌≡◌, ◌++◌, map, OnOk, IfOk};
-ghost use Rattle.goal_model.specs.Models.{model_of, goal_of, named_trace_of};
+ghost use Rattle.goal_model.specs.Models.{goal_of, trace_of};
+ghost use Rattle.goal_model.specs.ModelViews.{model_of};
 ghost use Rattle.kaos_program.specs.Texts.{truth_line, lines_on, row_lines, truths_text as text_of_truths};
 
 use goal_model::{Goal, Model, NamedTrace};
@@ -38,7 +39,7 @@ fn put_rows(
     traces: &[NamedTrace],
     rows: &[Vec<bool>],
 ) -> Result<(), Memory>
-    ensures { OnOk result (out.new.items ≡ out.old.items ++ row_lines (map goal_of goals.now) (map named_trace_of traces.now) (map (λ row. row.items) rows.now)) }
+    ensures { OnOk result (out.new.items ≡ out.old.items ++ row_lines (map goal_of goals.now) (map trace_of traces.now) (map (λ row. row.items) rows.now)) }
 {
     let count = traces.len().min(rows.len());
     'traces: for place in 0..count {
@@ -58,6 +59,6 @@ pub(crate) fn truths_text(
 {
     let mut out = Vec::new(alloc);
     put(&mut out, b"kaos trace 1\n")?;
-    put_rows(&mut out, &model.goals, &model.traces, rows)?;
+    put_rows(&mut out, model.goals(), model.traces(), rows)?;
     Ok(out)
 }

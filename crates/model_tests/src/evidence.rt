@@ -1,12 +1,13 @@
 //! Whether the lassos of a report show what they are there for, by the truth of goals that a model has which is read anew. Nothing is
 //! asked of the program that made the report.
 
-ghost use Rattle.std.specs.Prelude.{◌↔◌, IsTrue, IfSome, IfOk};
+ghost use Rattle.std.specs.Prelude.{◌≡◌, ◌↔◌, IsTrue, IfSome, IfOk};
 ghost use Rattle.state_space.specs.Spaces.{ranges, sizes};
 ghost use Rattle.temporal_logic.specs.Fits.{Fits};
 ghost use Rattle.temporal_logic.specs.Lassos.{IsOfSpace};
 ghost use Rattle.temporal_logic.specs.Trees.{tree_of};
-ghost use Rattle.goal_model.specs.Models.{model_of, IsWellFormed};
+ghost use Rattle.goal_model.specs.Models.{sizes_of};
+ghost use Rattle.goal_model.specs.ModelViews.{model_of};
 
 use crate::texts::cut;
 use goal_model::Model;
@@ -25,23 +26,27 @@ fn is_of_space(space: &Space, lasso: &Lasso) -> bool
     prefix && lasso.cycle.iter().all(|state| state.fits(space))
 }
 
+// The variables of a model.
+fn space(model: &Model) -> &Space
+    ensures ranges { ranges result.now ≡ (model_of model.now).ranges }
+    ensures sizes { sizes result.now ≡ sizes_of (model_of model.now) }
+{
+    model.space()
+}
+
 // The formula of the goal or the property of a name.
 fn formula_of<'m>(model: &'m Model, name: &[u8]) -> Option<&'m Formula>
-    requires well_formed { IsWellFormed (model_of model.now) }
-    ensures fits { IfSome result (λ f. Fits (ranges model.now.space) (tree_of f.now)) }
+    ensures fits { IfSome result (λ f. Fits (model_of model.now).ranges (tree_of f.now)) }
 {
-    if let Some(place) = model
-        .goals
-        .iter()
-        .position(|goal| goal.name.bytes() == name)
-    {
-        return Some(&model.goals[place].formula);
+    let goals = model.goals();
+    if let Some(place) = goals.iter().position(|goal| goal.name.bytes() == name) {
+        return Some(&goals[place].formula);
     }
-    let place = model
-        .domains
+    let domains = model.domains();
+    let place = domains
         .iter()
         .position(|property| property.name.bytes() == name)?;
-    Some(&model.domains[place].formula)
+    Some(&domains[place].formula)
 }
 
 // Whether a formula is true at the start of a lasso.
@@ -55,22 +60,19 @@ fn is_true(alloc: Global, space: &Space, lasso: &Lasso, formula: &Formula) -> Re
 
 // Whether a name's formula is true, or false where `not` stands before the name.
 fn shows_one(alloc: Global, model: &Model, lasso: &Lasso, claim: &str) -> Result<bool, Fail>
-    requires well_formed { IsWellFormed (model_of model.now) }
-    requires of_space { IsOfSpace (sizes model.now.space) lasso.now }
+    requires of_space { IsOfSpace (sizes_of (model_of model.now)) lasso.now }
 {
     let (name, due) = match claim.strip_prefix("not ") {
         Some(name) => (name, false),
         None => (claim, true),
     };
     let formula = formula_of(model, name.as_bytes()).ok_or("an unknown goal")?;
-    Ok(is_true(alloc, &model.space, lasso, formula)? == due)
+    Ok(is_true(alloc, space(model), lasso, formula)? == due)
 }
 
 // Whether a lasso shows all that a line claims.
-fn shows(alloc: Global, model: &Model, lasso: &Lasso, line: &str) -> Result<bool, Fail>
-    requires well_formed { IsWellFormed (model_of model.now) }
-{
-    if !is_of_space(&model.space, lasso) {
+fn shows(alloc: Global, model: &Model, lasso: &Lasso, line: &str) -> Result<bool, Fail> {
+    if !is_of_space(space(model), lasso) {
         return Ok(false);
     }
     'claims: for claim in line.split(", ") {
@@ -93,9 +95,7 @@ pub(crate) fn are_shown(
     model: &Model,
     report: &Report,
     due: &str,
-) -> Result<bool, Fail>
-    requires well_formed { IsWellFormed (model_of model.now) }
-{
+) -> Result<bool, Fail> {
     let mut rest = due;
     'entries: for entry in &report.entries {
         if let Evidence::Trace(lasso) = &entry.evidence {

@@ -4,6 +4,8 @@
 #![tactic(auto)]
 
 #[cfg(test)]
+mod entities;
+#[cfg(test)]
 mod evidence;
 #[cfg(test)]
 mod faults;
@@ -17,6 +19,8 @@ mod parts;
 mod refusals;
 #[cfg(test)]
 mod reports;
+#[cfg(test)]
+mod resolution;
 #[cfg(test)]
 mod runs;
 #[cfg(test)]

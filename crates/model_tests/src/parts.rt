@@ -26,21 +26,30 @@ fn put_named(
 }
 
 fn put_domains(alloc: Global, out: &mut Vec<u8>, model: &Model) -> Result<(), AllocError> {
-    for property in &model.domains {
+    for property in model.domains() {
         put_named(alloc, out, "domain", property.statement, &property.name)?;
     }
     Ok(())
 }
 
 fn put_goals(alloc: Global, out: &mut Vec<u8>, model: &Model) -> Result<(), AllocError> {
-    for goal in &model.goals {
+    for goal in model.goals() {
         put_named(alloc, out, "goal", goal.statement, &goal.name)?;
     }
     Ok(())
 }
 
 fn put_link(alloc: Global, out: &mut Vec<u8>, link: &Link) -> Result<(), AllocError> {
-    let (statement, parent, subgoals) = (link.statement(), link.parent(), link.subgoals());
+    let Link::Refine {
+        statement,
+        parent,
+        subgoals,
+        ..
+    } = link
+    else {
+        return put(out, "another link\n");
+    };
+    let subgoals = subgoals.as_slice();
     let line = format!(in alloc; "refine {statement} {parent} by {subgoals:?}\n")?;
     put(out, &line)
 }
@@ -81,8 +90,8 @@ fn parts(alloc: Global, model: &Model) -> Result<Vec<u8>, AllocError> {
     let mut out = Vec::new(alloc);
     put_domains(alloc, &mut out, model)?;
     put_goals(alloc, &mut out, model)?;
-    put_links(alloc, &mut out, &model.links)?;
-    put_traces(alloc, &mut out, &model.traces)?;
+    put_links(alloc, &mut out, model.links())?;
+    put_traces(alloc, &mut out, model.traces())?;
     Ok(out)
 }
 

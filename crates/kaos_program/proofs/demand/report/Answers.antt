@@ -1,27 +1,19 @@
-use Rattle.std.proofs.Common.{◌≡◌, ◌<◌, length, get_or, All}
-use Rattle.goal_model.specs.Demands.{IsAnswerable}
-use Rattle.goal_model.specs.Models.{LinkForm, model_of}
-use Rattle.kaos_program.proofs.DemandParts.{link_inside, entries_more}
+use Rattle.std.proofs.Common.{◌<◌, length, ap, arith}
+use Rattle.std.proofs.lemmas.List.{length-map}
+use Rattle.goal_model.specs.Models.{link_of}
+use Rattle.goal_model.specs.ModelViews.{model_of}
+use Rattle.kaos_program.proofs.DemandParts.{answered_at, entries_more}
 use Rattle.kaos_program.proofs.demand.report.Goals as goal
 
-pub entry-requires-clause-answerable : goal.entry-requires-clause-answerable
-entry-requires-clause-answerable g c =
-    let item : c.link-item.result ≡ get_or c.args.model.now.links.items c.links.link-index c.link-item.result = rw c.deref-link-items.ensures.value at c.link-item.is in
-    link_inside (IsAnswerable (model_of c.args.model.now)) c.args.model.now.links.items c.links.link-index c.link-item.result c.requires.answerable (rw c.deref-link-items.ensures.value at c.links-test.true) item
+pub entry-requires-clause-link : goal.entry-requires-clause-link
+entry-requires-clause-link g c = omega (arith, c.links-test.true, length-map c.links-link-end.result.now link_of, ap length c.links-link-end.ensures)
 
-pub entry-requires-clause-parent : goal.entry-requires-clause-parent
-entry-requires-clause-parent g c =
-    let item : c.link-item.result ≡ get_or c.args.model.now.links.items c.links.link-index c.link-item.result = rw c.deref-link-items.ensures.value at c.link-item.is in
-    let P = λ (l : LinkForm). l.parent < length (model_of c.args.model.now).goals in
-    link_inside P c.args.model.now.links.items c.links.link-index c.link-item.result c.requires.well_formed.parents (rw c.deref-link-items.ensures.value at c.links-test.true) item
-
-pub entry-requires-clause-subgoals : goal.entry-requires-clause-subgoals
-entry-requires-clause-subgoals g c =
-    let item : c.link-item.result ≡ get_or c.args.model.now.links.items c.links.link-index c.link-item.result = rw c.deref-link-items.ensures.value at c.link-item.is in
-    let P = λ (l : LinkForm). All (λ g. g < length (model_of c.args.model.now).goals) l.subgoals in
-    link_inside P c.args.model.now.links.items c.links.link-index c.link-item.result c.requires.well_formed.subgoals (rw c.deref-link-items.ensures.value at c.links-test.true) item
+pub entry-requires-clause-answered : goal.entry-requires-clause-answered
+entry-requires-clause-answered g c =
+    let inside : c.links.link < length (model_of c.args.model.now).links = omega (arith, c.links-test.true, length-map c.links-link-end.result.now link_of, ap length c.links-link-end.ensures) in
+    answered_at (model_of c.args.model.now).links c.links.link c.requires.answered inside
 
 pub links-preserved : goal.links-preserved
 links-preserved g c =
-    let item : c.link-item.result ≡ get_or c.args.model.now.links.items c.links.link-index c.link-item.result = rw c.deref-link-items.ensures.value at c.link-item.is in
-    entries_more (model_of c.args.model.now) 20000 c.args.model.now.links.items c.links.entries.items _ c.links.link-index c.link-item.result _ (rw c.deref-link-items.ensures.value at c.links-test.true) item c.links.invariant c.in_ok-entry.ensures.entry c.in_ok-push.ensures.items
+    let inside : c.links.link < length (model_of c.args.model.now).links = omega (arith, c.links-test.true, length-map c.links-link-end.result.now link_of, ap length c.links-link-end.ensures) in
+    entries_more (model_of c.args.model.now) 20000 (model_of c.args.model.now).links c.links.link c.links.entries.items _ _ inside c.links.invariant c.in_ok-entry.ensures.entry c.in_ok-push.ensures.items

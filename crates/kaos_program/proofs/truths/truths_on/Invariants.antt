@@ -5,4 +5,4 @@ use Rattle.kaos_program.specs.Truths.{AreTruthsOn}
 use Rattle.kaos_program.proofs.truths.truths_on.Given as goal
 
 abbrev pub invariant-goals : goal.invariant-goals
-invariant-goals l = AreTruthsOn (trace_of l.lasso) (map goal_of (take l.goal-index l.model.goals.items)) l.row.items
+invariant-goals l = AreTruthsOn (trace_of l.lasso) (map goal_of (take l.goal-index l.goals)) l.row.items
