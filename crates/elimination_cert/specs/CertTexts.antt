@@ -53,6 +53,10 @@ first_line count = codes "certificate " ++ decimal count ++ codes "\n"
 abbrev pub cert_text : List ℕ → List CertNodeForm → List ℕ
 cert_text sizes cert = first_line (length cert) ++ flat_map (node_text sizes) cert
 
+-- the same lines, each behind some bytes
+abbrev pub indented_cert : List ℕ → List ℕ → List CertNodeForm → List ℕ
+indented_cert indent sizes cert = indent ++ first_line (length cert) ++ flat_map (λ c. indent ++ node_text sizes c) cert
+
 -- the until of a wait has a number that fits 16 bits
 abbrev pub IsSmall : ReasonForm → Type 0
 IsSmall (wait e) = e < 2 ^ 16

@@ -11,4 +11,4 @@ mod text;
 pub use law::law_of_texts;
 pub use read::read_cert;
 pub use refusal::CertRefusal;
-pub use text::cert_text;
+pub use text::{cert_text, put_cert};

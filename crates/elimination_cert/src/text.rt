@@ -7,7 +7,7 @@ ghost use Rattle.state_space.specs.Spaces.{sizes};
 ghost use Rattle.state_space.specs.ValueTexts.{members};
 ghost use Rattle.tableau_rules.specs.Turns.{sets_of};
 ghost use Rattle.tableau_rules.specs.CertView.{reason_of, cert_node_of, cert_of};
-ghost use Rattle.elimination_cert.specs.CertTexts.{joined, list_text, set_text, now_text, reason_text, node_text, first_line, cert_text as text_of_cert, FitsSizes};
+ghost use Rattle.elimination_cert.specs.CertTexts.{joined, list_text, set_text, now_text, reason_text, node_text, first_line, indented_cert, cert_text as text_of_cert, FitsSizes};
 ghost use Rattle.tableau_rules.specs.Sets.{numbers_from};
 ghost use Rattle.elimination_cert.specs.Endings.{more_texts, numbers_left};
 
@@ -197,6 +197,35 @@ pub(crate) fn put_first_line(out: &mut Vec<u8>, count: u64) -> Result<(), Memory
     put(out, b"\n")
 }
 
+// The first line, behind an indent.
+fn put_front(out: &mut Vec<u8>, indent: &[u8], count: u64) -> Result<(), Memory>
+    ensures { OnOk result (out.new.items ≡ out.old.items ++ indent.now ++ first_line count) }
+{
+    put(out, indent)?;
+    put_first_line(out, count)
+}
+
+// The line of a node that fits the space, behind an indent.
+fn put_line(out: &mut Vec<u8>, indent: &[u8], space: &Space, entry: &CertNode) -> Result<(), Memory>
+    requires { length entry.now.node.now.items ≡ length (sizes space.now) }
+    ensures { OnOk result (out.new.items ≡ out.old.items ++ indent.now ++ node_text (sizes space.now) (cert_node_of entry.entry.now)) }
+{
+    put(out, indent)?;
+    put_node(out, space, entry)
+}
+
+/// Appends the text of a certificate whose nodes have one set for each variable of the space, with `indent` before each line.
+pub fn put_cert(out: &mut Vec<u8>, indent: &[u8], space: &Space, cert: &Cert) -> Result<(), Memory>
+    requires { All (λ c. length c.node.now ≡ length (sizes space.now)) (cert_of cert.now) }
+    ensures { OnOk result (out.new.items ≡ out.old.items ++ indented_cert indent.now (sizes space.now) (cert_of cert.now)) }
+{
+    put_front(out, indent, cert.nodes.len() as u64)?;
+    'nodes: for entry in &cert.nodes {
+        put_line(out, indent, space, entry)?;
+    }
+    Ok(())
+}
+
 /// The text of a certificate whose nodes have one set for each variable of the space: its number of
 /// nodes, and a line for each node. Only memory can be wanting.
 pub fn cert_text(alloc: Global, space: &Space, cert: &Cert) -> Result<Vec<u8>, Memory>
@@ -204,9 +233,6 @@ pub fn cert_text(alloc: Global, space: &Space, cert: &Cert) -> Result<Vec<u8>, M
     ensures { IfOk result (λ text. text.items ≡ text_of_cert (sizes space.now) (cert_of cert.now)) }
 {
     let mut out = Vec::new(alloc);
-    put_first_line(&mut out, cert.nodes.len() as u64)?;
-    'nodes: for entry in &cert.nodes {
-        put_node(&mut out, space, entry)?;
-    }
+    put_cert(&mut out, b"", space, cert)?;
     Ok(out)
 }

@@ -34,11 +34,12 @@ use Rattle.goal_model.specs.Models.{refine, obstruct, operationalise, assign, Mo
 use Rattle.goal_model.specs.ModelViews.{model_of}
 use Rattle.goal_model.specs.Reachability.{closes_cycle}
 use Rattle.goal_model.specs.Drafts.{DraftForm, no_draft, scope_of, keeps}
-use Rattle.goal_model.specs.Declarations.{members_by, declared_by, used_by, all_declared, DeclaresApart, UsesDeclared}
+use Rattle.goal_model.specs.Declarations.{members_by, declared_by, used_in, set_by, used_by, all_declared, DeclaresApart, UsesDeclared}
 use Rattle.goal_model.specs.Resolution.{Outcome, made, has_few_members, all_fresh, plain_in, one_taken, two_taken, with_variable, with_entity_type, with_attribute, with_property, with_goal, with_obstacle, with_agent, with_operation, with_requirement, with_link, with_conflict, with_expected, with_trace, uncontrolled, row_taken, taken, goes_on, outcome_from, outcome_of}
 use Rattle.goal_model.proofs.KnownTypes.{or_false, or_swap, or_none, one_found, slice_get_last, type_by, typed, typed_push, members_typed, TypeIs, Knows, Adds, grows}
 use Rattle.goal_model.proofs.Found.{then_ok, held}
 use Rattle.goal_model.proofs.GoodRanges.{pairs_push, not_among, apart_distinct}
+use Rattle.goal_model.proofs.UsedNames.{AreNamed, formula_named, states_named}
 
 -- ---- what a statement adds
 
@@ -158,6 +159,10 @@ rows_known before d known front (x ∷ xs) all k e =
     let t = then_ok (holds (not (do_meet s.0 front)) DuplicateName x) (λ _. variables_from (scope_of d) (front ++ s.0) xs) all s.2 in
     All-cons (λ x. is_among x known ≡ true) x xs (row_known before d known x s.0 k s.1) (rows_known before d known (front ++ s.0) xs all k t.2)
 
+-- names that mean something are known
+named_known : (before : List StatementForm) (d : DraftForm) (known xs : List (List ℕ)) → Knows before d known → AreNamed (scope_of d) xs → All (λ x. is_among x known ≡ true) xs
+named_known before d known xs k named i e l = sym (k.names (get_or xs i e)) ∙ named i e l
+
 -- ---- names that are apart
 
 pairs_append : (xs ys : List (List ℕ)) → AllPairs (λ a b. a ≢ b) xs → AllPairs (λ a b. a ≢ b) ys → All (λ y. is_among y xs ≡ false) ys → AllPairs (λ a b. a ≢ b) (xs ++ ys)
@@ -258,6 +263,20 @@ two_same d n x first second p e =
     let is : keeps d n (a.0 ∷ b.0 ∷ []) ≡ p.0 = cc in
     subst (Same d) is (refl, refl, refl)
 
+-- the names that a statement's formulas use are known
+one_known : (before : List StatementForm) (d : DraftForm) (known : List (List ℕ)) (n : ℕ) (x : List ℕ) (body : RawTree) (p : DraftForm × Ltl) → Knows before d known → one_taken d n x body ≡ Ok p → All (λ x. is_among x known ≡ true) (used_in body)
+one_known before d known n x body p k e =
+    let a = then_ok (written_in (scope_of d) body) _ p e in
+    named_known before d known (used_in body) k (formula_named (scope_of d) body a.0 a.1)
+
+two_known : (before : List StatementForm) (d : DraftForm) (known : List (List ℕ)) (n : ℕ) (x : List ℕ) (first second : RawTree) (p : DraftForm × Ltl × Ltl) → Knows before d known → two_taken d n x first second ≡ Ok p
+    → All (λ x. is_among x known ≡ true) (used_in first ++ used_in second)
+two_known before d known n x first second p k e =
+    let a = then_ok (written_in (scope_of d) first) _ p e in
+    let b = then_ok (written_in (scope_of d) second) _ p a.2 in
+    let all = All-append (λ x. is_among x known ≡ true) (used_in first) (used_in second) in
+    all (named_known before d known (used_in first) k (formula_named (scope_of d) first a.0 a.1)) (named_known before d known (used_in second) k (formula_named (scope_of d) second b.0 b.1))
+
 abbrev entry : List ℕ → Kind → ℕ → Declared
 entry x kind place = record { name = x; kind = kind; place = place }
 
@@ -315,19 +334,19 @@ steps before d next n (attribute f entity r) known k e =
 steps before d next n (domain x body) known k e =
     let a = then_ok (fresh (scope_of d) x) _ next e in
     let b = then_ok (one_taken d n x body) _ next a.2 in
-    other before _ d b.0.0 next (with_property b.0.0 n x false b.0.1) known _ (entry x Property (length b.0.0.model.domains)) (λ y. refl) refl k (new_name before d known x a.0 k a.1) (one_same d n x body b.0 b.1) b.2 refl refl refl (all_known known)
+    other before _ d b.0.0 next (with_property b.0.0 n x false b.0.1) known _ (entry x Property (length b.0.0.model.domains)) (λ y. refl) refl k (new_name before d known x a.0 k a.1) (one_same d n x body b.0 b.1) b.2 refl refl refl (one_known before d known n x body b.0 k b.1)
 steps before d next n (rule x cause effect) known k e =
     let a = then_ok (fresh (scope_of d) x) _ next e in
     let b = then_ok (two_taken d n x cause effect) _ next a.2 in
-    other before _ d b.0.0 next (with_property b.0.0 n x true (entails b.0.1 b.0.2)) known _ (entry x Property (length b.0.0.model.domains)) (λ y. refl) refl k (new_name before d known x a.0 k a.1) (two_same d n x cause effect b.0 b.1) b.2 refl refl refl (all_known known)
+    other before _ d b.0.0 next (with_property b.0.0 n x true (entails b.0.1 b.0.2)) known _ (entry x Property (length b.0.0.model.domains)) (λ y. refl) refl k (new_name before d known x a.0 k a.1) (two_same d n x cause effect b.0 b.1) b.2 refl refl refl (two_known before d known n x cause effect b.0 k b.1)
 steps before d next n (goal x body) known k e =
     let a = then_ok (fresh (scope_of d) x) _ next e in
     let b = then_ok (one_taken d n x body) _ next a.2 in
-    other before _ d b.0.0 next (with_goal b.0.0 n x b.0.1) known _ (entry x Goal (length b.0.0.model.goals)) (λ y. refl) refl k (new_name before d known x a.0 k a.1) (one_same d n x body b.0 b.1) b.2 refl refl refl (all_known known)
+    other before _ d b.0.0 next (with_goal b.0.0 n x b.0.1) known _ (entry x Goal (length b.0.0.model.goals)) (λ y. refl) refl k (new_name before d known x a.0 k a.1) (one_same d n x body b.0 b.1) b.2 refl refl refl (one_known before d known n x body b.0 k b.1)
 steps before d next n (obstacle x body) known k e =
     let a = then_ok (fresh (scope_of d) x) _ next e in
     let b = then_ok (one_taken d n x body) _ next a.2 in
-    other before _ d b.0.0 next (with_obstacle b.0.0 n x b.0.1) known _ (entry x Obstacle (length b.0.0.model.obstacles)) (λ y. refl) refl k (new_name before d known x a.0 k a.1) (one_same d n x body b.0 b.1) b.2 refl refl refl (all_known known)
+    other before _ d b.0.0 next (with_obstacle b.0.0 n x b.0.1) known _ (entry x Obstacle (length b.0.0.model.obstacles)) (λ y. refl) refl k (new_name before d known x a.0 k a.1) (one_same d n x body b.0 b.1) b.2 refl refl refl (one_known before d known n x body b.0 k b.1)
 steps before d next n (refinement x xs pattern) known k e =
     let a = then_ok (used (scope_of d) Goal x) _ next e in
     let b = then_ok (listed (used (scope_of d) Goal) xs) _ next a.2 in
@@ -342,7 +361,7 @@ steps before d next n (conflict x xs boundary) known k e =
     let a = then_ok (fresh (scope_of d) x) _ next e in
     let b = then_ok (listed (used (scope_of d) Goal) xs) _ next a.2 in
     let c = then_ok (one_taken d n x boundary) _ next b.2 in
-    other before _ d c.0.0 next (with_conflict c.0.0 n x b.0 c.0.1) known _ (entry x Conflict (length c.0.0.model.links)) (λ y. refl) refl k (new_name before d known x a.0 k a.1) (one_same d n x boundary c.0 c.1) c.2 refl refl refl (used_all before d known Goal xs b.0 k b.1)
+    other before _ d c.0.0 next (with_conflict c.0.0 n x b.0 c.0.1) known _ (entry x Conflict (length c.0.0.model.links)) (λ y. refl) refl k (new_name before d known x a.0 k a.1) (one_same d n x boundary c.0 c.1) c.2 refl refl refl (All-append (λ x. is_among x known ≡ true) xs (used_in boundary) (used_all before d known Goal xs b.0 k b.1) (one_known before d known n x boundary c.0 k c.1))
 steps before d next n (agent x ms cs) known k e =
     let a = then_ok (fresh (scope_of d) x) _ next e in
     let b = then_ok (variables_in (scope_of d) ms) _ next a.2 in
@@ -362,13 +381,13 @@ steps before d next n (operation x y dompre dompost) known k e =
     let b = then_ok (used (scope_of d) Agent y) _ next a.2 in
     let c = then_ok (two_taken d n x dompre dompost) _ next b.2 in
     let f = then_ok (holds (is_state_of c.0.1 && is_state_of c.0.2) NotState x) _ next c.2 in
-    other before _ d c.0.0 next (with_operation c.0.0 x b.0 c.0.1 c.0.2) known _ (entry x Operation (length c.0.0.model.operations)) (λ y. refl) refl k (new_name before d known x a.0 k a.1) (two_same d n x dompre dompost c.0 c.1) f.2 refl refl refl (and_known known y [] (used_known before d known Agent y b.0 k b.1) (all_known known))
+    other before _ d c.0.0 next (with_operation c.0.0 x b.0 c.0.1 c.0.2) known _ (entry x Operation (length c.0.0.model.operations)) (λ y. refl) refl k (new_name before d known x a.0 k a.1) (two_same d n x dompre dompost c.0 c.1) f.2 refl refl refl (and_known known y (used_in dompre ++ used_in dompost) (used_known before d known Agent y b.0 k b.1) (two_known before d known n x dompre dompost c.0 k c.1))
 steps before d next n (requirement x y role body) known k e =
     let a = then_ok (fresh (scope_of d) x) _ next e in
     let b = then_ok (used (scope_of d) Operation y) _ next a.2 in
     let c = then_ok (one_taken d n x body) _ next b.2 in
     let f = then_ok (holds (is_state_of c.0.1) NotState x) _ next c.2 in
-    other before _ d c.0.0 next (with_requirement c.0.0 x b.0 role c.0.1) known _ (entry x Requirement (length c.0.0.model.requirements)) (λ y. refl) refl k (new_name before d known x a.0 k a.1) (one_same d n x body c.0 c.1) f.2 refl refl refl (and_known known y [] (used_known before d known Operation y b.0 k b.1) (all_known known))
+    other before _ d c.0.0 next (with_requirement c.0.0 x b.0 role c.0.1) known _ (entry x Requirement (length c.0.0.model.requirements)) (λ y. refl) refl k (new_name before d known x a.0 k a.1) (one_same d n x body c.0 c.1) f.2 refl refl refl (and_known known y (used_in body) (used_known before d known Operation y b.0 k b.1) (one_known before d known n x body c.0 k c.1))
 steps before d next n (operationalisation x xs exact) known k e =
     let a = then_ok (used (scope_of d) Goal x) _ next e in
     let b = then_ok (listed (used (scope_of d) Requirement) xs) _ next a.2 in
@@ -378,7 +397,7 @@ steps before d next n (trace x prefix cycle) known k e =
     let b = then_ok (states_in (scope_of d) prefix) _ next a.2 in
     let c = then_ok (states_in (scope_of d) cycle) _ next b.2 in
     let f = then_ok (holds (nat_lt 0 (length c.0)) BadValue x) _ next c.2 in
-    other before _ d d next (with_trace d x b.0 c.0) known _ (entry x Trace (length d.model.traces)) (λ y. refl) refl k (new_name before d known x a.0 k a.1) (refl, refl, refl) f.2 refl refl refl (all_known known)
+    other before _ d d next (with_trace d x b.0 c.0) known _ (entry x Trace (length d.model.traces)) (λ y. refl) refl k (new_name before d known x a.0 k a.1) (refl, refl, refl) f.2 refl refl refl (All-append (λ x. is_among x known ≡ true) (set_by prefix) (set_by cycle) (named_known before d known (set_by prefix) k (states_named (scope_of d) prefix b.0 b.1)) (named_known before d known (set_by cycle) k (states_named (scope_of d) cycle c.0 c.1)))
 
 -- ---- all statements
 

@@ -19,8 +19,11 @@ pub mod Tables
 pub mod MeasuredLists
 pub mod LinkItems
 pub mod SizedItems
+pub mod DemandLists
+pub mod WeighedParts
 pub mod Padding
 pub mod KnownTypes
+pub mod UsedNames
 pub mod KnownNames
 pub mod EntityViews
 pub mod Places
@@ -32,3 +35,4 @@ pub mod PlainParts
 pub mod SeenNames
 pub mod NameIndexes
 pub mod WithinLimits
+pub mod Outcomes

@@ -1,22 +1,23 @@
 -- Closures of lists of cores, a formula more at a time.
-use Rattle.std.proofs.Common.{◌≡◌, ◌↔◌, ℕ, suc, ◌≤◌, Bool, true, false, List, [], ◌∷◌, ◌++◌, length, take, refl, sym, ap, ap₂, subst, ◌∙◌, arith}
+use Rattle.std.proofs.Common.{◌≡◌, ◌↔◌, ℕ, suc, ◌+◌, ◌≤◌, min, if◌then◌else◌, Bool, true, false, List, [], ◌∷◌, ◌++◌, length, take, refl, sym, ap, ap₂, subst, ◌∙◌, arith}
 use Rattle.std.specs.Prelude.{All, IsTrue, IsFalse, ◌&&◌, nat_le}
 use Rattle.std.specs.List.{list_all}
 use Rattle.std.proofs.lemmas.Bool.{false≢true, and_parts, leb-true, le-leb}
 use Rattle.std.proofs.lemmas.List.{map-append}
 use Rattle.std.proofs.lemmas.List.Elements.{All-nil, All-cons, All-push}
 use Rattle.temporal_logic.specs.Ltl.{Ltl}
-use Rattle.bound_unfolding.specs.CoreForm.{CoreForm, levels}
+use Rattle.bound_unfolding.specs.CoreForm.{CoreForm, levels, nodes}
 use Rattle.bound_unfolding.specs.CoreTree.{core_tree}
 use Rattle.bound_unfolding.specs.CoreLists.{cores_of}
 use Rattle.formula_table.specs.Closures.{with_core, with_cores, closure_of}
 use Rattle.formula_table.specs.SmallLists.{AreSmall}
 use Rattle.formula_table.specs.Tables.{closure_in, IsKept}
 use Rattle.formula_table.proofs.Cores.{core_kept}
+use Rattle.formula_table.proofs.CoreLaws.{core_size}
 use Rattle.goal_model.specs.declared.list_size.Measured.{Measured}
 use Rattle.goal_model.specs.Items.{signed}
 use Rattle.goal_model.specs.SmallLists.{is_small_list}
-use Rattle.goal_model.specs.Sizes.{Measures}
+use Rattle.goal_model.specs.Sizes.{Measures, weight, IsWithin}
 
 -- ---- lists of which all have something
 All_tail : {X : Type 0} (P : X → Type 0) (x : X) (xs : List X) → All P (x ∷ xs) → All P xs
@@ -109,6 +110,23 @@ module _ (sizes : List ℕ) (list : List Ltl) (positive : Bool) (f : Ltl) where
     small = (λ yes. absurd (false≢true (sym not ∙ yes)), λ are. measured.small.1 (small_before are));
     closure = λ yes. absurd (false≢true (sym not ∙ yes));
   }
+
+  -- a formula more where a total bounds what was there
+  pub within_more : (total : ℕ) → IsWithin sizes list total → IsWithin sizes more (min (total + weight sizes positive f) 4097)
+  within_more total within few = by (nat_le (levels core) 1000) refl few
+    where
+      by : (b : Bool) → nat_le (levels core) 1000 ≡ b → min (total + (if b then min (nodes core) 4097 else 4097)) 4097 ≤ 4096
+          → (length (closure_of (cores_of sizes more)) ≤ min (total + (if b then min (nodes core) 4097 else 4097)) 4097) × All IsShallow more
+      by true shallow l =
+          let sum : total + nodes core ≤ 4096 = omega (arith, l) in
+          let before = within (omega (arith, sum)) in
+          let count = before.0 in
+          let grown = core_size core closure in
+          let whole : length (closure_of (cores_of sizes more)) ≤ total + nodes core = subst (λ cl. length cl ≤ total + nodes core) (sym closure_more) (omega (arith, count, grown)) in (
+            omega (arith, whole, sum),
+            All-push IsShallow list (signed positive f) before.1 (subst (λ c. levels c ≤ 1000) (sym (core_signed sizes positive f)) (leb-true (levels core) 1000 shallow)),
+          )
+      by false deep l = absurd (omega (arith, l))
 
 -- ---- the test
 both_true : (a b : Bool) → a ≡ true → b ≡ true → (a && b) ≡ true

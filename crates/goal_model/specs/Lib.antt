@@ -20,9 +20,12 @@ pub mod ModelViews
 pub mod WholeScopes
 pub mod WholeDrafts
 pub mod Sizes
+pub mod PartWeights
+pub mod Sizers
 pub mod Resolution
 pub mod Outcomes
 pub mod KnownParts
+pub mod Demands
 pub mod Labels
 pub mod Declarations
 pub mod FirstPlaces

@@ -1,16 +1,17 @@
 //! Demands: the formulas that an item's parts stand for, behind the domain properties.
 
-ghost use Rattle.std.specs.Prelude.{◌≡◌, ◌<◌, [], Some, All, map, length, IfOk};
+ghost use Rattle.std.specs.Prelude.{◌≡◌, ◌<◌, ◌∷◌, [], All, map, length, slice_index_or, IfOk};
 ghost use Rattle.temporal_logic.specs.Trees.{tree_of};
 ghost use Rattle.temporal_logic.specs.Ltl.{conj, next as next_form, entails as entails_form};
 ghost use Rattle.goal_model.specs.Models.{contents_of, link_of, requirement_of, PartsFit};
 ghost use Rattle.goal_model.specs.ModelViews.{model_of};
 ghost use Rattle.goal_model.specs.KnownParts.{PartIsOf};
 ghost use Rattle.goal_model.specs.Requirements.{requirement_tree as requirement_tree_form};
-ghost use Rattle.goal_model.specs.Items.{requirement_formula as requirement_formula_form, boundary_of, part_formula, signed, list_of, label_of, domain_item};
+ghost use Rattle.goal_model.specs.Items.{requirement_formula as requirement_formula_form, boundary_of, part_formula, signed, list_of, domain_item, no_link, link_items_of};
+ghost use Rattle.goal_model.specs.Demands.{demand_of, demands_of, IsAnswerable};
 
 use crate::contents::{Contents, Link, Requirement};
-use crate::item::{Label, LabelKind, Part, Wanted};
+use crate::item::{Label, LabelKind, Part, Wanted, link_items};
 use crate::model::Model;
 use model_text::Role;
 use source_sink::Memory;
@@ -171,9 +172,8 @@ pub struct Demand {
 
 /// The demand that the domain properties have a trace.
 pub fn domain_demand(alloc: Global, model: &Model) -> Result<Demand, Memory>
-    ensures label { IfOk result (λ d. label_of d.label ≡ domain_item.label) }
-    ensures list { IfOk result (λ d. map tree_of d.list.items ≡ list_of (model_of model.now) []) }
-    ensures wanted { IfOk result (λ d. Some d.wanted ≡ domain_item.wanted) }
+    ensures demand { IfOk result (λ d. demand_of d ∷ [] ≡ demands_of (model_of model.now) (domain_item ∷ [])) }
+    ensures answerable { IfOk result (λ d. IsAnswerable (model_of model.now) (map tree_of d.list.items)) }
 {
     Ok(Demand {
         label: Label {
@@ -184,4 +184,25 @@ pub fn domain_demand(alloc: Global, model: &Model) -> Result<Demand, Memory>
         list: domain_list(alloc, &model.contents)?,
         wanted: Wanted::SomeTrace,
     })
+}
+
+/// The demands of the link at a place, in the order of the report; an assignment has none, as it asks nothing of traces.
+pub fn link_demands(alloc: Global, model: &Model, link: usize) -> Result<Vec<Demand>, Memory>
+    requires { link < length (model_of model.now).links }
+    ensures demands { IfOk result (λ ds. map demand_of ds.items ≡ demands_of (model_of model.now) (link_items_of (model_of model.now) link (slice_index_or (model_of model.now).links link no_link))) }
+    ensures answerable { IfOk result (λ ds. All (λ d. IsAnswerable (model_of model.now) (map tree_of d.list.items)) ds.items) }
+{
+    let items = link_items(alloc, model, link)?;
+    let mut demands = Vec::new(alloc);
+    'items: for item in items {
+        if let Some(wanted) = item.wanted {
+            let list = demand_list(alloc, model, &item.parts)?;
+            demands.push(Demand {
+                label: item.label,
+                list,
+                wanted,
+            })?;
+        }
+    }
+    Ok(demands)
 }

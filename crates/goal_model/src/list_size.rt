@@ -12,9 +12,9 @@ ghost use Rattle.formula_table.specs.Closures.{with_core};
 ghost use Rattle.formula_table.specs.Tables.{closure_in, IsKept};
 ghost use Rattle.goal_model.specs.Items.{signed};
 ghost use Rattle.goal_model.specs.SmallLists.{is_small_list};
-ghost use Rattle.goal_model.specs.Sizes.{Measures};
+ghost use Rattle.goal_model.specs.Sizes.{Measures, weight as weight_form, both_weights, both_of, IsWithin};
 
-use bound_unfolding::core_depth;
+use bound_unfolding::{core_depth, core_size};
 use formula_table::{PutRefusal, Table};
 use source_sink::Memory;
 use state_space::Space;
@@ -35,6 +35,37 @@ fn is_put(table: &mut Table, space: &Space, f: &Formula, positive: bool) -> Resu
         Ok(_) => Ok(true),
         Err(PutRefusal::Full) => Ok(false),
         Err(PutRefusal::Memory) => Err(Memory),
+    }
+}
+
+/// How many formulas the core of a formula, or of its negation, adds to a table at most: as many as it has nodes. It is 4097 where they are
+/// more than 4096, or where the core has more than 1000 levels.
+#[derive(Clone, Copy)]
+pub(crate) struct Weight {
+    pub(crate) positive: u64,
+    pub(crate) negative: u64,
+}
+
+// What the core of a formula, positive or negative, weighs.
+fn core_weight(space: &Space, f: &Formula, positive: bool) -> u64
+    requires { Fits (ranges space.now) (tree_of f.now) }
+    ensures { result ≡ weight_form (sizes space.now) positive (tree_of f.now) }
+{
+    if core_depth(space, f, positive) > 1000 {
+        4097
+    } else {
+        core_size(space, f, positive)
+    }
+}
+
+/// What a formula weighs.
+pub(crate) fn weigh(space: &Space, f: &Formula) -> Weight
+    requires { Fits (ranges space.now) (tree_of f.now) }
+    ensures { both_of result ≡ both_weights (sizes space.now) (tree_of f.now) }
+{
+    Weight {
+        positive: core_weight(space, f, true),
+        negative: core_weight(space, f, false),
     }
 }
 
@@ -84,6 +115,17 @@ impl Measured {
         ensures { (sizes : List ℕ) (list : List Ltl) → Measures sizes list self.now → result ≡ is_small_list sizes list }
     {
         self.is_small
+    }
+
+    /// How many formulas are in the table; 4097 where the list is too large.
+    pub(crate) fn total(&self) -> u64
+        ensures { (sizes : List ℕ) (list : List Ltl) → Measures sizes list self.now → IsWithin sizes list result }
+    {
+        if self.is_small {
+            self.table.len() as u64
+        } else {
+            4097
+        }
     }
 
     /// What is measured now.

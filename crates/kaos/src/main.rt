@@ -20,6 +20,6 @@ fn main(rt: HostRuntime) -> ExitCode {
     }
     let mut source = StdSource::new(rt.reader());
     let mut sink = StdSink::new(io::writer(&rt));
-    let outcome = run(rt.alloc(), &words, &mut source, &mut sink, &Engine);
-    ExitCode::from(outcome.into_status().0)
+    let outcome = run(rt.alloc(), &Engine, &words, &mut source, &mut sink);
+    ExitCode::from(outcome.into_status().code())
 }

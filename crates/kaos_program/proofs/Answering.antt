@@ -8,13 +8,19 @@ use Rattle.model_text.specs.Readability.{IsReadable, Refuses}
 use Rattle.goal_model.specs.declared.refusal.RefusalKind.{RefusalKind}
 use Rattle.goal_model.specs.Models.{ModelForm}
 use Rattle.goal_model.specs.Resolution.{made, refuses, outcome_of}
+use Rattle.verdict_report.specs.declared.form.Form.{Form}
+use Rattle.verdict_report.specs.declared.report.Report.{Report}
+use Rattle.verdict_report.specs.Reports.{Reports}
+use Rattle.verdict_report.specs.ReportTexts.{report_text}
 use Rattle.kaos_program.specs.declared.command.Command.{Command}
 use Rattle.kaos_program.specs.declared.command.Command.TheVariants.{Check, Trace}
-use Rattle.kaos_program.specs.declared.report.Report.{Report}
+use Rattle.kaos_program.specs.declared.status.Status.{Status}
+use Rattle.kaos_program.specs.declared.status.Status.TheVariants as statuses
+use Rattle.kaos_program.specs.Statuses.{status_of, status_of_truths}
 use Rattle.kaos_program.specs.Unanswered.{first_unanswered}
-use Rattle.kaos_program.specs.Reports.{Reports, status_of}
-use Rattle.kaos_program.specs.Truths.{AreTruths, status_of_truths}
-use Rattle.kaos_program.specs.Texts.{text_refusal, model_refusal, not_built, report_text, truths_text}
+use Rattle.kaos_program.specs.Truths.{AreTruths}
+use Rattle.kaos_program.specs.RefusalTexts.{text_refusal, model_refusal, not_built}
+use Rattle.kaos_program.specs.TruthTexts.{truths_text}
 use Rattle.kaos_program.specs.Answering.{IsAccepted, IsRefused, a_text, its_statements, a_link, Answers, a_refusal, a_report, truths}
 
 -- a cause that is not want of memory
@@ -32,13 +38,14 @@ pub link_line : (bytes : List ℕ) (ss : List StatementForm) (m : ModelForm) (st
     → line ≡ not_built statement → IsRefused bytes line
 link_line bytes ss m statement line size read makes first is = rw is (a_link ss m statement size read makes first)
 
-pub reported : (bytes : List ℕ) (ss : List StatementForm) (m : ModelForm) (r : Report) (status : ℕ) (out : List ℕ) → IsAccepted bytes ss m → Reports m r → status ≡ status_of r → out ≡ report_text m.names m.ranges r
-    → Answers bytes Check status (Some r) out
-reported bytes ss m r status out a reports s o = rw (s, o) (a_report ss m r a reports)
+pub reported : (bytes : List ℕ) (ss : List StatementForm) (m : ModelForm) (budget : ℕ) (form : Form) (r : Report) (status : Status) (out : List ℕ) → IsAccepted bytes ss m → Reports m budget r → status ≡ status_of r
+    → out ≡ report_text form m.names m.ranges r → Answers bytes (Check budget form) status (Some r) out
+reported bytes ss m budget form r status out a reports s o = rw (s, o) (a_report ss m budget form r a reports)
 
-pub traced : (bytes : List ℕ) (ss : List StatementForm) (m : ModelForm) (rows : List (List Bool)) (status : ℕ) (out : List ℕ) → IsAccepted bytes ss m → AreTruths m rows → status ≡ status_of_truths rows → out ≡ truths_text m rows
+pub traced : (bytes : List ℕ) (ss : List StatementForm) (m : ModelForm) (rows : List (List Bool)) (status : Status) (out : List ℕ) → IsAccepted bytes ss m → AreTruths m rows → status ≡ status_of_truths rows → out ≡ truths_text m rows
     → Answers bytes Trace status None out
 traced bytes ss m rows status out a right s o = rw (s, o) (truths ss m rows a right)
 
-pub refused_line : (command : Command) (bytes line : List ℕ) (status : ℕ) (report : Option Report) (out : List ℕ) → IsRefused bytes line → status ≡ 2 → report ≡ None → out ≡ line → Answers bytes command status report out
+pub refused_line : (command : Command) (bytes line : List ℕ) (status : Status) (report : Option Report) (out : List ℕ) → IsRefused bytes line → status ≡ statuses.Refused → report ≡ None → out ≡ line
+    → Answers bytes command status report out
 refused_line command bytes line status report out refused s r o = rw (s, r, o) (a_refusal command line refused)

@@ -16,7 +16,7 @@ use Rattle.goal_model.specs.declared.contents.Goal.{Goal}
 use Rattle.goal_model.specs.declared.contents.NamedTrace.{NamedTrace}
 use Rattle.goal_model.specs.Models.{GoalForm, TraceForm, goal_of, trace_of, TraceIsOver}
 use Rattle.kaos_program.specs.Truths.{AreTruthsOn, AreTruthRows}
-use Rattle.kaos_program.specs.Texts.{truth_line, lines_on, row_lines}
+use Rattle.kaos_program.specs.TruthTexts.{truth_line, lines_on, row_lines}
 use Rattle.kaos_program.proofs.ModelParts.{All-unmap}
 
 -- ---- what a well-formed model gives

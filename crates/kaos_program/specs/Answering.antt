@@ -1,21 +1,24 @@
 -- What is answered to the bytes of a text under each command.
 use Rattle.std.specs.Prelude.{◌≡◌, ℕ, ◌<◌, ◌≤◌, Bool, List, length, Option, Some, None}
 use Rattle.model_text.specs.declared.text.TextRefusal.{TextRefusal}
-use Rattle.model_text.specs.Statements.{StatementForm, statements_of}
+use Rattle.model_text.specs.Statements.{StatementForm}
 use Rattle.model_text.specs.Readability.{IsReadable, Refuses}
 use Rattle.goal_model.specs.declared.refusal.RefusalKind.{RefusalKind}
 use Rattle.goal_model.specs.Models.{ModelForm}
-use Rattle.goal_model.specs.ModelViews.{model_of}
 use Rattle.goal_model.specs.Resolution.{made, refuses, outcome_of}
-use Rattle.kaos_program.specs.declared.answer.Reading.{Reading}
-use Rattle.kaos_program.specs.declared.answer.Reading.TheVariants.{Accepted, Refused}
+use Rattle.verdict_report.specs.declared.form.Form.{Form}
+use Rattle.verdict_report.specs.declared.report.Report.{Report}
+use Rattle.verdict_report.specs.Reports.{Reports}
+use Rattle.verdict_report.specs.ReportTexts.{report_text}
 use Rattle.kaos_program.specs.declared.command.Command.{Command}
 use Rattle.kaos_program.specs.declared.command.Command.TheVariants.{Check, Trace}
-use Rattle.kaos_program.specs.declared.report.Report.{Report}
+use Rattle.kaos_program.specs.declared.status.Status.{Status}
+use Rattle.kaos_program.specs.declared.status.Status.TheVariants as statuses
+use Rattle.kaos_program.specs.Statuses.{status_of, status_of_truths}
 use Rattle.kaos_program.specs.Unanswered.{first_unanswered}
-use Rattle.kaos_program.specs.Reports.{Reports, status_of}
-use Rattle.kaos_program.specs.Truths.{AreTruths, status_of_truths}
-use Rattle.kaos_program.specs.Texts.{too_long_text, text_refusal, model_refusal, not_built, report_text, truths_text}
+use Rattle.kaos_program.specs.Truths.{AreTruths}
+use Rattle.kaos_program.specs.RefusalTexts.{too_long_text, text_refusal, model_refusal, not_built}
+use Rattle.kaos_program.specs.TruthTexts.{truths_text}
 
 -- the bytes are within their limit and spell these statements, which make this model, and the demands of all its links are answered
 pub record IsAccepted (bytes : List ℕ) (statements : List StatementForm) (m : ModelForm) : Type 0 where
@@ -35,15 +38,10 @@ pub data IsRefused (bytes : List ℕ) : List ℕ → Type 0 where
       → first_unanswered m.links ≡ Some statement → IsRefused bytes (not_built statement)
 
 -- the status, the report and the output that bytes have under a command: a text that is not accepted is refused; else there is the report
--- that answers each demand, or the truth of each goal on each trace
-pub data Answers (bytes : List ℕ) : Command → ℕ → Option Report → List ℕ → Type 0 where
-  a_refusal : (command : Command) (line : List ℕ) → IsRefused bytes line → Answers bytes command 2 None line
-  a_report : (ss : List StatementForm) (m : ModelForm) (report : Report) → IsAccepted bytes ss m → Reports m report
-      → Answers bytes Check (status_of report) (Some report) (report_text m.names m.ranges report)
+-- that answers each demand under the budget, in the form that is asked for, or the truth of each goal on each trace
+pub data Answers (bytes : List ℕ) : Command → Status → Option Report → List ℕ → Type 0 where
+  a_refusal : (command : Command) (line : List ℕ) → IsRefused bytes line → Answers bytes command statuses.Refused None line
+  a_report : (ss : List StatementForm) (m : ModelForm) (budget : ℕ) (form : Form) (report : Report) → IsAccepted bytes ss m → Reports m budget report
+      → Answers bytes (Check budget form) (status_of report) (Some report) (report_text form m.names m.ranges report)
   truths : (ss : List StatementForm) (m : ModelForm) (rows : List (List Bool)) → IsAccepted bytes ss m → AreTruths m rows
       → Answers bytes Trace (status_of_truths rows) None (truths_text m rows)
-
--- what the bytes come to before any command: their statements and the model of these, or the line of a refusal
-abbrev pub ReadsTo : List ℕ → Reading → Type 0
-ReadsTo bytes (Accepted raw model) = IsAccepted bytes (statements_of raw) (model_of model)
-ReadsTo bytes (Refused line) = IsRefused bytes line.items

@@ -1,6 +1,5 @@
--- When truth values are those of the goals of a model on its traces, and the status that they give.
-use Rattle.std.specs.Prelude.{ℕ, ◌↔◌, Bool, List, [], ◌∷◌, IsTrue, if◌then◌else◌}
-use Rattle.std.specs.List.{list_all}
+-- When truth values are those of the goals of a model on its traces.
+use Rattle.std.specs.Prelude.{◌↔◌, Bool, List, [], ◌∷◌, IsTrue}
 use Rattle.temporal_logic.specs.Truth.{Trace, Truth}
 use Rattle.temporal_logic.specs.Rows.{from_lists}
 use Rattle.goal_model.specs.Models.{GoalForm, TraceForm, ModelForm}
@@ -22,7 +21,3 @@ AreTruthRows goals (t ∷ ts) [] = ⊥
 -- for each trace of the model a row, with the truth of each goal at the start of that trace
 abbrev pub AreTruths : ModelForm → List (List Bool) → Type 0
 AreTruths m rows = AreTruthRows m.goals m.traces rows
-
--- 1 where some goal is false on some trace
-abbrev pub status_of_truths : List (List Bool) → ℕ
-status_of_truths rows = if list_all (list_all (λ b. b)) rows then 0 else 1

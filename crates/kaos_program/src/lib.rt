@@ -1,18 +1,21 @@
 //! Answers whether the links of a goal model hold, with evidence, and which goals are true on the traces of a model: the program hands
-//! its words, a source and a sink to `run`, whose clauses say what is answered.
+//! its words, a source and a sink to `run`, whose clause says what is answered.
 #![tactic(auto)]
 
 mod answer;
+mod check;
 mod command;
-mod demand;
+mod law;
+mod options;
+mod reading;
 mod refusal_text;
-mod report;
 mod running;
-mod text;
+mod status;
 mod truths;
 mod truths_text;
 mod unanswered;
 
 pub use command::Command;
-pub use report::{Entry, Evidence, Report, Verdict};
-pub use running::{Outcome, Status, run};
+pub use law::{law_of_answers, law_of_words};
+pub use running::{Outcome, run};
+pub use status::Status;

@@ -1,9 +1,9 @@
 //! The lines that say why a text is refused: one line each, for whoever edits the text, with the
 //! place of a byte, from 0, or the number of a statement, from 1. Their bytes are changed here, in
-//! specs/Texts.antt and in docs/LANGUAGE.md.
+//! specs/RefusalTexts.antt and in docs/LANGUAGE.md.
 
 ghost use Rattle.std.specs.Prelude.{◌≡◌, ◌++◌, codes, decimal, IfOk};
-ghost use Rattle.kaos_program.specs.Texts.{limit_name as limit_name_of, kind_name as kind_name_of, text_refusal as text_refusal_of, statement_refusal as statement_refusal_of, model_refusal as model_refusal_of, not_built as not_built_of};
+ghost use Rattle.kaos_program.specs.RefusalTexts.{limit_name as limit_name_of, kind_name as kind_name_of, text_refusal as text_refusal_of, statement_refusal as statement_refusal_of, model_refusal as model_refusal_of, not_built as not_built_of};
 
 use goal_model::RefusalKind;
 use model_text::{LimitKind, TextRefusal};

@@ -2,6 +2,7 @@
 //! the trace itself, so that no tableau and no budget plays a part.
 
 ghost use Rattle.std.specs.Prelude.{◌≡◌, ◌↔◌, map, IsTrue, IfOk};
+ghost use Rattle.std.specs.List.{list_all};
 ghost use Rattle.state_space.specs.Spaces.{ranges, sizes};
 ghost use Rattle.temporal_logic.specs.Fits.{Fits};
 ghost use Rattle.temporal_logic.specs.Lassos.{trace_of, IsOfSpace};
@@ -10,7 +11,9 @@ ghost use Rattle.temporal_logic.specs.Truth.{Truth};
 ghost use Rattle.goal_model.specs.Models.{sizes_of};
 ghost use Rattle.goal_model.specs.ModelViews.{model_of};
 ghost use Rattle.kaos_program.specs.Truths.{AreTruthsOn, AreTruths};
+ghost use Rattle.kaos_program.specs.Statuses.{status_of_truths as status_of_rows};
 
+use crate::status::Status;
 use goal_model::Model;
 use lasso_checker::{scratch_len, truth_at_start};
 use source_sink::Memory;
@@ -56,4 +59,22 @@ pub(crate) fn truths(alloc: Global, model: &Model) -> Result<Vec<Vec<bool>>, Mem
         rows.push(truths_on(alloc, model, &trace.lasso)?)?;
     }
     Ok(rows)
+}
+
+fn are_all_true(row: &[bool]) -> bool
+    ensures { result ≡ list_all (λ b. b) row.now }
+{
+    row.iter().all(|truth| *truth)
+}
+
+/// The status that truth values give.
+pub(crate) fn status_of_truths(rows: &[Vec<bool>]) -> Status
+    ensures { result ≡ status_of_rows (map (λ row. row.items) rows.now) }
+{
+    'rows: for row in rows {
+        if !are_all_true(row) {
+            return Status::Failed;
+        }
+    }
+    Status::Held
 }

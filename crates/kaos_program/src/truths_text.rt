@@ -1,10 +1,10 @@
 //! The text of the truth of goals on traces: a first line, and then one for each trace and goal,
-//! traces and goals in statement order. The bytes are those of specs/Texts.antt.
+//! traces and goals in statement order. The bytes are those of specs/TruthTexts.antt.
 
 ghost use Rattle.std.specs.Prelude.{◌≡◌, ◌++◌, map, OnOk, IfOk};
 ghost use Rattle.goal_model.specs.Models.{goal_of, trace_of};
 ghost use Rattle.goal_model.specs.ModelViews.{model_of};
-ghost use Rattle.kaos_program.specs.Texts.{truth_line, lines_on, row_lines, truths_text as text_of_truths};
+ghost use Rattle.kaos_program.specs.TruthTexts.{truth_line, lines_on, row_lines, truths_text as text_of_truths};
 
 use goal_model::{Goal, Model, NamedTrace};
 use source_sink::{Memory, put};
@@ -49,7 +49,7 @@ fn put_rows(
 }
 
 /// The text of the truth of each goal on each trace of a model.
-#[tactic(auto, unfolding(crate::specs::Texts::truths_text))]
+#[tactic(auto, unfolding(crate::specs::TruthTexts::truths_text))]
 pub(crate) fn truths_text(
     alloc: Global,
     model: &Model,

@@ -11,13 +11,13 @@ ghost use Rattle.goal_model.specs.ModelViews.{model_of};
 
 use crate::texts::cut;
 use goal_model::Model;
-use kaos_program::{Evidence, Report};
 use lasso_checker::{scratch_len, truth_at_start};
 use source_sink::Memory;
 use state_space::Space;
 use std::alloc::Global;
 use std::test::Fail;
 use temporal_logic::{Formula, Lasso};
+use verdict_report::{Evidence, Report};
 
 fn is_of_space(space: &Space, lasso: &Lasso) -> bool
     ensures { IsTrue result ↔ IsOfSpace (sizes space.now) lasso.now }
@@ -58,10 +58,13 @@ fn is_true(alloc: Global, space: &Space, lasso: &Lasso, formula: &Formula) -> Re
     Ok(truth_at_start(space, lasso, formula, &mut scratch))
 }
 
-// Whether a name's formula is true, or false where `not` stands before the name.
+// Whether a name's formula is true, or false where `not` stands before the name. Of `any trace` nothing has to be true.
 fn shows_one(alloc: Global, model: &Model, lasso: &Lasso, claim: &str) -> Result<bool, Fail>
     requires of_space { IsOfSpace (sizes_of (model_of model.now)) lasso.now }
 {
+    if claim == "any trace" {
+        return Ok(true);
+    }
     let (name, due) = match claim.strip_prefix("not ") {
         Some(name) => (name, false),
         None => (claim, true),

@@ -1,21 +1,18 @@
-//! What runs do where reads or writes fail, or where the words are those of no command.
+//! What runs do where reads or writes fail, or where whoever answers finds no memory.
 
-use crate::runs::{compare_answer, given_by, given_into};
+use crate::runs::{given_by, given_into};
 use crate::texts::{compare, cut, holds, number};
+use entailment::Engine;
 use source_sink::{Memory, MemorySink, MemorySource, SteadySource};
+use state_space::Space;
 use std::alloc::{AllocError, Global};
 use std::process::Abort;
 use std::test::Fail;
+use tableau_rules::{Answer, Answerer, Query};
 
-// A text of 84 bytes, and the status and the report on it, but for evidence.
+// A text of 84 bytes.
 const TEXT: &str =
     "kaos 1; var a: bool; var b: bool; goal P: always a; goal Q: always b; refine P by Q;";
-
-const REPORT: &str = "1
-kaos report 1 budget 20000
-refine 6 P complete: fails
-total: 0 hold, 1 fail, 0 withheld
-";
 
 // The read that fails, where a read gives 16 bytes.
 const READS: &str = "\
@@ -85,7 +82,7 @@ fn fails(
     let (failing, front) = cut(rest, " | ")?;
     let mut sink = failing_sink(alloc, number(room)?, number(failing)? as u64)?;
     let mut source = steady_source(alloc, text)?;
-    let given = given_into(alloc, words, &mut source, &mut sink)?;
+    let given = given_into(alloc, &Engine, words, &mut source, &mut sink)?;
     is_fault(rt, name, &given.answer, front)
 }
 
@@ -104,45 +101,23 @@ fn write_faults(rt: HostRuntime) -> Result<(), Fail> {
     Ok(())
 }
 
-const OTHER_WORDS: &str = "\
-no word | none
-an empty word | []
-another word | [report]
-another case | [Check]
-a longer word | [checks]
-the word twice | [check] [check]
-the word and another | [check] [-]
-two commands | [trace] [check]";
+// An answerer that finds no memory.
+struct Poor;
 
-const USAGE: &str = "3\nusage: kaos check\n       kaos trace\n";
-
-fn are_refused(
-    rt: &impl Abort,
-    alloc: Global,
-    name: &str,
-    words: &str,
-    source: &mut SteadySource,
-) -> Result<(), Fail> {
-    let given = given_by(alloc, words, source)?;
-    compare(rt, name, &given.answer, USAGE);
-    holds(rt, name, given.report.is_none());
-    Ok(())
-}
-
-fn leave_the_source(rt: &impl Abort, alloc: Global, name: &str, words: &str) -> Result<(), Fail> {
-    let mut source = steady_source(alloc, TEXT)?;
-    are_refused(rt, alloc, name, words, &mut source)?;
-    let given = given_by(alloc, "[check]", &mut source)?;
-    compare_answer(rt, alloc, name, &given.answer, REPORT)?;
-    Ok(())
-}
-
-// Words that are not accepted leave the source as it is: a second run reads all of it.
-#[test]
-fn other_words(rt: HostRuntime) -> Result<(), Fail> {
-    for row in OTHER_WORDS.lines() {
-        let (name, words) = cut(row, " | ")?;
-        leave_the_source(&rt, rt.alloc(), name, words)?;
+impl Answerer for Poor {
+    fn answer(&self, _: Global, _: &Space, _: &Query, _: u32) -> Result<Answer, Memory> {
+        Err(Memory)
     }
+}
+
+// Nothing is written.
+#[test]
+fn want_of_memory(rt: HostRuntime) -> Result<(), Fail> {
+    let alloc = rt.alloc();
+    let mut source = steady_source(alloc, TEXT)?;
+    let mut sink = failing_sink(alloc, 100, 99)?;
+    let given = given_into(alloc, &Poor, "[check]", &mut source, &mut sink)?;
+    compare(&rt, "want of memory", &given.answer, "7\n");
+    holds(&rt, "want of memory", given.report.is_none());
     Ok(())
 }

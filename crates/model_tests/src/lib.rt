@@ -27,3 +27,5 @@ mod runs;
 mod texts;
 #[cfg(test)]
 mod traces;
+#[cfg(test)]
+mod words;

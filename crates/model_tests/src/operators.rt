@@ -1,5 +1,5 @@
-//! Refinements of one goal by another, over three truth variables: a parent, a subgoal, and whether the parent follows. Both
-//! are asked of every state, so that the tables of truth decide.
+//! Refinements of one goal by another, over three truth variables: a parent, a subgoal, and whether the parent follows, though it may
+//! follow from a subgoal that no state has, or without one. Both are asked of every state, so that the tables of truth decide.
 
 use crate::runs::gives;
 use crate::texts::parts_of;
@@ -9,20 +9,56 @@ use std::test::Fail;
 
 const HOLDS: &str = "0
 kaos report 1 budget 20000
+domain consistent: holds
+  any trace
 refine 7 P complete: holds
-total: 1 hold, 0 fail, 0 withheld
+refine 7 P consistent: holds
+  Q
+refine 7 P minimal without Q: holds
+  not P
+total: 4 hold, 0 fail, 0 withheld
 ";
 
 const FAILS: &str = "1
 kaos report 1 budget 20000
+domain consistent: holds
+  any trace
 refine 7 P complete: fails
   Q, not P
-total: 0 hold, 1 fail, 0 withheld
+refine 7 P consistent: holds
+  Q
+refine 7 P minimal without Q: holds
+  not P
+total: 3 hold, 1 fail, 0 withheld
+";
+
+// No state has the subgoal.
+const INCONSISTENT: &str = "1
+kaos report 1 budget 20000
+domain consistent: holds
+  any trace
+refine 7 P complete: holds
+refine 7 P consistent: fails
+refine 7 P minimal without Q: holds
+  not P
+total: 3 hold, 1 fail, 0 withheld
+";
+
+// Every state has the parent.
+const NEEDLESS: &str = "1
+kaos report 1 budget 20000
+domain consistent: holds
+  any trace
+refine 7 P complete: holds
+refine 7 P consistent: holds
+  Q
+refine 7 P minimal without Q: fails
+total: 3 hold, 1 fail, 0 withheld
 ";
 
 const OPERATORS: &str = "\
-true | a | holds
-a | false | holds
+true | a | needless
+a | false | inconsistent
 a | true | fails
 false | c | fails
 not a | true | fails
@@ -42,7 +78,7 @@ a != b | a = b | fails
 a <= b | a < b | holds
 a < b | a <= b | fails
 a > false | b in {true} | fails
-a in {true, false} | true | holds";
+a in {true, false} | true | needless";
 
 // Each row would have another answer if the operators were grouped the other way.
 const GROUPS: &str = "\
@@ -65,6 +101,15 @@ not (a and b) | true | fails
 not (a implies b) | true | fails
 (a iff b) implies c | b and not a | holds";
 
+fn report_of(answer: &str) -> &'static str {
+    match answer {
+        "holds" => HOLDS,
+        "fails" => FAILS,
+        "inconsistent" => INCONSISTENT,
+        _ => NEEDLESS,
+    }
+}
+
 fn is_answered(
     rt: &impl Abort,
     alloc: Global,
@@ -81,8 +126,7 @@ fn is_answered(
 fn are_answered(rt: &impl Abort, alloc: Global, table: &str) -> Result<(), Fail> {
     for row in table.lines() {
         let (parent, subgoal, answer) = parts_of(row)?;
-        let due = if answer == "holds" { HOLDS } else { FAILS };
-        is_answered(rt, alloc, parent, subgoal, due)?;
+        is_answered(rt, alloc, parent, subgoal, report_of(answer))?;
     }
     Ok(())
 }

@@ -92,6 +92,7 @@ an entity type in the first version | kaos 1; entity E: { e }; | refused: syntax
 501 operators and parentheses | kaos 1; var a: bool; goal P: always [500 (]a[500 )]; goal Q: always a; refine P by Q; | refused: limit Operators
 500 operators | kaos 1; var a: bool; goal P: always [499 not ]a; goal Q: always a; refine P by Q; | refused: limit Depth
 501 operators | kaos 1; var a: bool; goal P: always [500 not ]a; goal Q: always a; refine P by Q; | refused: limit Operators
+a range of 65 values | kaos 1; var x: 0..64; | refused: statement 2: BadRange x
 a name of 41 bytes | kaos 1; var [41 n]: bool; | refused: limit NameLength
 a text of 1048577 bytes | kaos 1;[1048570  ] | refused: longer than 1048576 bytes";
 

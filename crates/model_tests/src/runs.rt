@@ -1,16 +1,21 @@
 //! Runs, and the blocks of tables that say what is due of them. A block is a name, the lines of a text, `-> ` with the status, and the
-//! lines of the output. In a report, a line that begins with two blanks stands where evidence is printed, which is not compared: it
-//! names the goals and properties that the trace has to make true, and those, behind `not`, that it has to make false.
+//! lines of the output. In a report with all evidence, a line that begins with two blanks stands where a trace is printed, which is not
+//! compared: it names the goals and properties that the trace has to make true, and those, behind `not`, that it has to make false.
 
 use crate::evidence::are_shown;
 use crate::texts::{bytes_of, compare, cut, holds, model_in};
 use entailment::Engine;
-use kaos_program::{Report, run};
+use kaos_program::run;
 use source_sink::{MemorySink, MemorySource, Source};
 use std::alloc::{AllocError, Global};
 use std::process::Abort;
 use std::str;
 use std::test::Fail;
+use tableau_rules::Answerer;
+use verdict_report::Report;
+
+/// The words for a report without evidence.
+pub(crate) const LINES: &str = "[check] [--form] [lines]";
 
 // More bytes than any output has, and than a text may have by one.
 const ROOM: usize = 1_048_577;
@@ -38,17 +43,18 @@ fn answer_text(alloc: Global, status: u8, output: &[u8]) -> Result<String, Fail>
     Ok(format!(in alloc; "{status}\n{output}")?)
 }
 
-/// A run on what a source has, into a sink that holds nothing before.
-pub(crate) fn given_into<S: Source>(
+/// A run by an answerer on what a source has, into a sink that holds nothing before.
+pub(crate) fn given_into<A: Answerer, S: Source>(
     alloc: Global,
+    answerer: &A,
     words: &str,
     source: &mut S,
     sink: &mut MemorySink,
 ) -> Result<Given, Fail> {
     let words = words_of(alloc, words)?;
-    let outcome = run(alloc, &words, source, sink, &Engine);
+    let outcome = run(alloc, answerer, &words, source, sink);
     Ok(Given {
-        answer: answer_text(alloc, outcome.status.0, sink.bytes())?,
+        answer: answer_text(alloc, outcome.status.code(), sink.bytes())?,
         report: outcome.report,
     })
 }
@@ -60,7 +66,7 @@ pub(crate) fn given_by<S: Source>(
     source: &mut S,
 ) -> Result<Given, Fail> {
     let mut sink = MemorySink::new(alloc, ROOM, ROOM, Vec::new(alloc))?;
-    given_into(alloc, words, source, &mut sink)
+    given_into(alloc, &Engine, words, source, &mut sink)
 }
 
 /// A run on bytes.
@@ -81,8 +87,8 @@ fn without_evidence(alloc: Global, answer: &str) -> Result<String, AllocError> {
     Ok(kept)
 }
 
-/// An answer is what is due, but for evidence.
-pub(crate) fn compare_answer(
+// An answer is what is due, but for evidence.
+fn compare_verdicts(
     rt: &impl Abort,
     alloc: Global,
     name: &str,
@@ -112,6 +118,19 @@ fn compare_evidence(
     Ok(())
 }
 
+// A report with all evidence has the verdicts that are due, and shows what is due.
+fn shows_all(
+    rt: &impl Abort,
+    alloc: Global,
+    name: &str,
+    bytes: &[u8],
+    given: &Given,
+    due: &str,
+) -> Result<(), Fail> {
+    compare_verdicts(rt, alloc, name, &given.answer, due)?;
+    compare_evidence(rt, alloc, name, bytes, &given.report, due)
+}
+
 /// A run on an accepted text gives what is due. Only `check` gives a report.
 pub(crate) fn gives(
     rt: &impl Abort,
@@ -122,9 +141,16 @@ pub(crate) fn gives(
     due: &str,
 ) -> Result<(), Fail> {
     let given = given_for(alloc, words, bytes)?;
-    compare_answer(rt, alloc, name, &given.answer, due)?;
-    holds(rt, name, given.report.is_some() == (words == "[check]"));
-    compare_evidence(rt, alloc, name, bytes, &given.report, due)
+    holds(
+        rt,
+        name,
+        given.report.is_some() == words.starts_with("[check]"),
+    );
+    if words == "[check]" {
+        return shows_all(rt, alloc, name, bytes, &given, due);
+    }
+    compare(rt, name, &given.answer, due);
+    Ok(())
 }
 
 /// A run on the text of a block gives what the block says.
@@ -138,4 +164,17 @@ pub(crate) fn answers(
     let (name, text) = cut(asked, "\n")?;
     let bytes = bytes_of(alloc, "", text)?;
     gives(rt, alloc, name, words, &bytes, due)
+}
+
+/// The answer to each block of a table.
+pub(crate) fn all_answer(
+    rt: &impl Abort,
+    alloc: Global,
+    words: &str,
+    table: &str,
+) -> Result<(), Fail> {
+    for block in table.split("\n== ").skip(1) {
+        answers(rt, alloc, words, block)?;
+    }
+    Ok(())
 }

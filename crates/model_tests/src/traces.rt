@@ -1,6 +1,6 @@
 //! The truth of goals on the traces of a text, by hand from the definition of truth.
 
-use crate::runs::answers;
+use crate::runs::all_answer;
 use std::test::Fail;
 
 const TRUTHS: &str = "
@@ -110,8 +110,5 @@ trace both Same: true
 
 #[test]
 fn truths_on_traces(rt: HostRuntime) -> Result<(), Fail> {
-    for block in TRUTHS.split("\n== ").skip(1) {
-        answers(&rt, rt.alloc(), "[trace]", block)?;
-    }
-    Ok(())
+    all_answer(&rt, rt.alloc(), "[trace]", TRUTHS)
 }

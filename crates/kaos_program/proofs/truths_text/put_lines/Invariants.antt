@@ -1,6 +1,6 @@
 use Rattle.std.proofs.Common.{◌≡◌, ◌++◌, map, drop}
 use Rattle.goal_model.specs.Models.{goal_of}
-use Rattle.kaos_program.specs.Texts.{lines_on}
+use Rattle.kaos_program.specs.TruthTexts.{lines_on}
 use Rattle.kaos_program.proofs.truths_text.put_lines.Given as goal
 
 abbrev pub invariant-goals : goal.invariant-goals

@@ -1,6 +1,6 @@
 use Rattle.std.proofs.Common.{◌≡◌, ◌++◌, map, drop}
 use Rattle.goal_model.specs.Models.{goal_of, trace_of}
-use Rattle.kaos_program.specs.Texts.{row_lines}
+use Rattle.kaos_program.specs.TruthTexts.{row_lines}
 use Rattle.kaos_program.proofs.truths_text.put_rows.Given as goal
 
 abbrev pub invariant-traces : goal.invariant-traces

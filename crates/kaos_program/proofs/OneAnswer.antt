@@ -1,0 +1,160 @@
+-- Two right answers to the same bytes under the same command have the same status, and the same verdicts under the same labels.
+use Rattle.std.proofs.Common.{◌≡◌, ◌↔◌, ℕ, ◌+◌, Bool, true, false, List, [], ◌∷◌, map, Some, refl, sym, ap, ◌∙◌, subst, arith}
+use Rattle.std.specs.Prelude.{Option, IsTrue, option_map, count_by, cond, if◌then◌else◌, ◌==◌}
+use Rattle.std.specs.List.{AllZip}
+use Rattle.std.proofs.lemmas.Bool.{false≢true}
+use Rattle.std.proofs.lemmas.Option.{none-some}
+use Rattle.std.proofs.lemmas.List.Folds.{fold-map}
+use Rattle.temporal_logic.specs.Truth.{Trace}
+use Rattle.temporal_logic.specs.Rows.{from_lists}
+use Rattle.model_text.specs.Statements.{StatementForm}
+use Rattle.model_text.specs.Readability.{IsReadable}
+use Rattle.model_text.proofs.Texts.{spelled_once, never_both}
+use Rattle.goal_model.specs.declared.refusal.RefusalKind.{RefusalKind}
+use Rattle.goal_model.specs.Models.{GoalForm, TraceForm, ModelForm}
+use Rattle.goal_model.specs.Resolution.{made, refuses, outcome_of}
+use Rattle.goal_model.specs.Items.{LabelForm, label_of, items_of}
+use Rattle.goal_model.specs.Demands.{DemandForm, demands_of}
+use Rattle.verdict_report.specs.declared.report.Verdict.{Verdict}
+use Rattle.verdict_report.specs.declared.report.Entry.{Entry}
+use Rattle.verdict_report.specs.declared.report.Report.{Report}
+use Rattle.verdict_report.specs.Reports.{IsEntry, Reports, is_failed, is_withheld, failed_count, withheld_count}
+use Rattle.verdict_report.proofs.VerdictLaws.{one_right}
+use Rattle.kaos_program.specs.declared.command.Command.{Command}
+use Rattle.kaos_program.specs.declared.status.Status.{Status}
+use Rattle.kaos_program.specs.declared.status.Status.TheVariants.{Held, Failed, Withheld}
+use Rattle.kaos_program.specs.Statuses.{status_of, status_of_truths}
+use Rattle.kaos_program.specs.Truths.{AreTruthsOn, AreTruthRows, AreTruths}
+use Rattle.kaos_program.specs.Unanswered.{first_unanswered}
+use Rattle.kaos_program.specs.Answering.{IsAccepted, IsRefused, too_long, a_text, its_statements, a_link, Answers, a_refusal, a_report, truths}
+use Rattle.kaos_program.specs.Laws.{verdicts_in}
+
+-- ---- a text is accepted as one model, or refused
+
+-- bytes are read as one list of statements
+one_reading : (bytes : List ℕ) (ss rs : List StatementForm) → IsReadable bytes ss → IsReadable bytes rs → ss ≡ rs
+one_reading bytes ss rs a b = spelled_once bytes ss rs a.spelled b.spelled
+
+-- an outcome is of one model
+same_made : (m n : ModelForm) → made m ≡ made n → m ≡ n
+same_made m n e = cc
+
+-- which makes one model
+one_model : (bytes : List ℕ) (ss rs : List StatementForm) (m n : ModelForm) → IsReadable bytes ss → outcome_of ss ≡ made m → IsReadable bytes rs → outcome_of rs ≡ made n → m ≡ n
+one_model bytes ss rs m n a makes b other = same_made m n (sym makes ∙ ap outcome_of (one_reading bytes ss rs a b) ∙ other)
+
+-- statements that make a model are not refused
+made_refuses : (m : ModelForm) (kind : RefusalKind) (statement : ℕ) (name : List ℕ) → made m ≡ refuses kind statement name → ⊥
+made_refuses m kind statement name e = cc
+
+-- bytes that are accepted are not refused
+accepted_refused : (bytes line : List ℕ) (ss : List StatementForm) (m : ModelForm) → IsAccepted bytes ss m → IsRefused bytes line → ⊥
+accepted_refused bytes line ss m a (too_long over) = let size = a.size in omega (arith, over, size)
+accepted_refused bytes line ss m a (a_text e size cause) = never_both bytes e ss cause a.readable
+accepted_refused bytes line ss m a (its_statements rs kind statement name size read refused) =
+    made_refuses m kind statement name (sym a.made ∙ ap outcome_of (one_reading bytes ss rs a.readable read) ∙ refused)
+accepted_refused bytes line ss m a (a_link rs n statement size read makes first) =
+    none-some statement (sym a.answered ∙ subst (λ (x : ModelForm). first_unanswered x.links ≡ Some statement) (sym (one_model bytes ss rs m n a.readable a.made read makes)) first)
+
+-- ---- reports
+
+-- the label of an entry with its verdict
+abbrev verdict_in : Entry → LabelForm × Verdict
+verdict_in e = (label_of e.label, e.verdict)
+
+-- two right entries for a demand
+one_entry : (m : ModelForm) (budget : ℕ) (d : DemandForm) (e f : Entry) → IsEntry m budget d e → IsEntry m budget d f → verdict_in e ≡ verdict_in f
+one_entry m budget d e f a b =
+    let label : label_of e.label ≡ label_of f.label = a.label ∙ sym b.label in
+    let verdict : e.verdict ≡ f.verdict = one_right m budget d.wanted d.list e.verdict f.verdict e.evidence f.evidence a.right b.right in
+    cc (label, verdict)
+
+-- and for each of a list of demands
+same_entries : (m : ModelForm) (budget : ℕ) (ds : List DemandForm) (es fs : List Entry) → AllZip (IsEntry m budget) ds es → AllZip (IsEntry m budget) ds fs → map verdict_in es ≡ map verdict_in fs
+same_entries m budget [] [] [] a b = refl
+same_entries m budget [] (e ∷ es) fs a b = absurd a
+same_entries m budget [] [] (f ∷ fs) a b = absurd b
+same_entries m budget (d ∷ ds) [] fs a b = absurd a
+same_entries m budget (d ∷ ds) (e ∷ es) [] a b = absurd b
+same_entries m budget (d ∷ ds) (e ∷ es) (f ∷ fs) a b =
+    let first = one_entry m budget d e f a.0 b.0 in
+    let rest = same_entries m budget ds es fs a.1 b.1 in
+    cc (first, rest)
+
+-- a count by verdicts is one over the labels and verdicts
+counted : (test : Verdict → Bool) (es : List Entry) → count_by (λ e. test e.verdict) es ≡ count_by (λ x. test x.1) (map verdict_in es)
+counted test es = sym (fold-map (λ (n : ℕ) (x : LabelForm × Verdict). n + cond (test x.1) 1 0) verdict_in 0 es)
+
+-- so entries of the same labels and verdicts count the same
+same_count : (test : Verdict → Bool) (es fs : List Entry) → map verdict_in es ≡ map verdict_in fs → count_by (λ e. test e.verdict) es ≡ count_by (λ e. test e.verdict) fs
+same_count test es fs same = counted test es ∙ ap (count_by (λ x. test x.1)) same ∙ sym (counted test fs)
+
+-- a status is that of the two counts
+abbrev by_counts : (failed withheld : ℕ) → Status
+by_counts failed withheld = if failed == 0 then (if withheld == 0 then Held else Withheld) else Failed
+
+-- reports of the same verdicts have the same status
+same_status : (report other : Report) → verdicts_in report ≡ verdicts_in other → status_of report ≡ status_of other
+same_status report other same =
+    ap (λ (n : ℕ). by_counts n (withheld_count report)) (same_count is_failed report.entries.items other.entries.items same)
+    ∙ ap (by_counts (failed_count other)) (same_count is_withheld report.entries.items other.entries.items same)
+
+-- two right reports of a model under a budget
+same_reports : (m : ModelForm) (budget : ℕ) (report other : Report) → Reports m budget report → Reports m budget other → verdicts_in report ≡ verdicts_in other
+same_reports m budget report other a b = same_entries m budget (demands_of m (items_of m)) report.entries.items other.entries.items a.entries b.entries
+
+-- ---- truth of goals on traces
+
+-- a truth value that stands for a fact is one
+one_truth : {T : Type 0} (b c : Bool) → IsTrue b ↔ T → IsTrue c ↔ T → b ≡ c
+one_truth true true e f = refl
+one_truth true false e f = absurd (false≢true (f.1 (e.0 refl)))
+one_truth false true e f = absurd (false≢true (e.1 (f.0 refl)))
+one_truth false false e f = refl
+
+-- the truth values of goals on a trace
+same_row : (t : Trace) (goals : List GoalForm) (bs cs : List Bool) → AreTruthsOn t goals bs → AreTruthsOn t goals cs → bs ≡ cs
+same_row t [] [] [] a b = refl
+same_row t [] [] (c ∷ cs) a b = absurd b
+same_row t [] (b ∷ bs) cs a d = absurd a
+same_row t (g ∷ goals) [] cs a b = absurd a
+same_row t (g ∷ goals) (b ∷ bs) [] a d = absurd d
+same_row t (g ∷ goals) (b ∷ bs) (c ∷ cs) a d =
+    let first : b ≡ c = one_truth b c a.0 d.0 in
+    let rest = same_row t goals bs cs a.1 d.1 in
+    cc (first, rest)
+
+-- and on each trace
+same_rows : (goals : List GoalForm) (ts : List TraceForm) (rows others : List (List Bool)) → AreTruthRows goals ts rows → AreTruthRows goals ts others → rows ≡ others
+same_rows goals [] [] [] a b = refl
+same_rows goals [] [] (other ∷ others) a b = absurd b
+same_rows goals [] (row ∷ rows) others a b = absurd a
+same_rows goals (t ∷ ts) [] others a b = absurd a
+same_rows goals (t ∷ ts) (row ∷ rows) [] a b = absurd b
+same_rows goals (t ∷ ts) (row ∷ rows) (other ∷ others) a b =
+    let first = same_row (from_lists t.prefix t.cycle) goals row other a.0 b.0 in
+    let rest = same_rows goals ts rows others a.1 b.1 in
+    cc (first, rest)
+
+-- ---- answers
+
+-- what two answers have in common
+pub record Agree (first second : Status) (report other : Option Report) : Type 0 where
+  pub status : first ≡ second
+  pub verdicts : option_map verdicts_in report ≡ option_map verdicts_in other
+
+-- two right answers agree: both refuse, both report on one model, or both give the truth of its goals
+pub one_answer : (bytes : List ℕ) (command : Command) (first second : Status) (report other : Option Report) (output further : List ℕ)
+    → Answers bytes command first report output → Answers bytes command second other further → Agree first second report other
+one_answer bytes command first second report other output further (a_refusal c line refused) (a_refusal d other_line also) = record { status = refl; verdicts = refl }
+one_answer bytes command first second report other output further (a_refusal c line refused) (a_report ss m budget form r accepted reports) = absurd (accepted_refused bytes line ss m accepted refused)
+one_answer bytes command first second report other output further (a_refusal c line refused) (truths ss m rows accepted right) = absurd (accepted_refused bytes line ss m accepted refused)
+one_answer bytes command first second report other output further (a_report ss m budget form r accepted reports) (a_refusal c line refused) = absurd (accepted_refused bytes line ss m accepted refused)
+one_answer bytes command first second report other output further (truths ss m rows accepted right) (a_refusal c line refused) = absurd (accepted_refused bytes line ss m accepted refused)
+one_answer bytes command first second report other output further (a_report ss m budget form r accepted reports) (a_report rs n limit shape q also others) =
+    let same = one_model bytes ss rs m n accepted.readable accepted.made also.readable also.made in
+    let verdicts = same_reports m budget r q reports (subst (λ (x : ModelForm). Reports x budget q) (sym same) others) in
+    record { status = same_status r q verdicts; verdicts = ap Some verdicts }
+one_answer bytes command first second report other output further (truths ss m rows accepted right) (truths rs n others also so) =
+    let same = one_model bytes ss rs m n accepted.readable accepted.made also.readable also.made in
+    record { status = ap status_of_truths (same_rows m.goals m.traces rows others right (subst (λ (x : ModelForm). AreTruths x others) (sym same) so)); verdicts = refl }

@@ -1,8 +1,0 @@
-use Rattle.std.proofs.Common.{◌≡◌, ◌++◌, drop}
-use Rattle.std.specs.List.{flat_map}
-use Rattle.state_space.specs.Spaces.{names, ranges}
-use Rattle.kaos_program.specs.Texts.{entry_text}
-use Rattle.kaos_program.proofs.text.put_entries.Given as goal
-
-abbrev pub invariant-entries : goal.invariant-entries
-invariant-entries l = l.out.items ++ flat_map (entry_text (names l.space) (ranges l.space)) (drop l.entry-index l.entries) ≡ l.fn.out.items ++ flat_map (entry_text (names l.space) (ranges l.space)) l.entries

@@ -1,0 +1,3 @@
+pub mod ValuesTexts
+pub mod Summaries
+pub mod VerdictLaws

@@ -1,0 +1,12 @@
+-- Which evidence can be written over the variables of a space.
+use Rattle.std.specs.Prelude.{◌≡◌, ℕ, List, length, All}
+use Rattle.temporal_logic.specs.Lassos.{IsOfSpace}
+use Rattle.tableau_rules.specs.CertView.{cert_of}
+use Rattle.verdict_report.specs.declared.report.Evidence.{Evidence}
+use Rattle.verdict_report.specs.declared.report.Evidence.TheVariants.{Nothing, Elimination, Trace}
+
+-- each node of a certificate has a set for each variable, and each state of a lasso has an index below its size for each
+abbrev pub EvidenceFits : List ℕ → Evidence → Type 0
+EvidenceFits sizes Nothing = Unit {0}
+EvidenceFits sizes (Elimination cert) = All (λ c. length c.node.now ≡ length sizes) (cert_of cert)
+EvidenceFits sizes (Trace l) = IsOfSpace sizes l

@@ -1,0 +1,44 @@
+//! Reports: an answer to each demand of a model, with its evidence, in the order of the links. When one is right, specs/Verdicts.antt and
+//! specs/Reports.antt say.
+
+use goal_model::{Label, Wanted};
+use tableau_rules::Cert;
+use temporal_logic::Lasso;
+
+/// The answer to a demand.
+#[derive(Clone, Copy, Debug, PartialEq, Eq)]
+pub enum Verdict {
+    Holds,
+    Fails,
+    /// The demand's tableau has more nodes than the budget, which is given.
+    Withheld(u32),
+}
+
+/// Why a verdict is so.
+#[derive(Drop)]
+pub enum Evidence {
+    /// Nothing is shown.
+    Nothing,
+    /// A certificate that no trace meets the demand's list.
+    Elimination(Cert),
+    /// A trace that meets the demand's list.
+    Trace(Lasso),
+}
+
+/// One demand, its verdict and the evidence.
+#[derive(Drop)]
+pub struct Entry {
+    pub label: Label,
+    /// What the demand asks of traces.
+    pub wanted: Option<Wanted>,
+    pub verdict: Verdict,
+    pub evidence: Evidence,
+}
+
+/// The answers to all demands of a model, in the order of its links.
+#[derive(Drop)]
+pub struct Report {
+    /// The number of nodes that a demand's tableau may have.
+    pub budget: u32,
+    pub entries: Vec<Entry>,
+}
