@@ -1,5 +1,6 @@
 pub mod BitSets
 pub mod NameForms
+pub mod NameIndexes
 pub mod NameLists
 pub mod Places
 pub mod SpaceFacts

@@ -1,20 +1,11 @@
 -- The place of a name in a list of names.
-use Rattle.std.proofs.Common.{◌≡◌, ℕ, ◌+◌, ◌<◌, ◌≤◌, Bool, not, cond, List, [], ◌∷◌, map, length, get_or, Some, None, refl, sym, ap, ◌∙◌, arith, bytes_eq, position, slice_get, Contains, ⊎_elim}
+use Rattle.std.proofs.Common.{◌≡◌, ℕ, ◌<◌, ◌≤◌, List, length, get_or, Some, None, sym, ap, ◌∙◌, arith, bytes_eq, position, slice_get, Contains, ⊎_elim}
 use Rattle.std.specs.List.{position_or_len}
 use Rattle.std.proofs.lemmas.Bool.{cond-true, lt-ltb, cases_lt, false≢true}
-use Rattle.std.proofs.lemmas.List.{length-map}
 use Rattle.std.proofs.lemmas.List.Quantifiers.{position-Some}
 use Rattle.std.proofs.lemmas.List.Sums.{fails_before_first}
 use Rattle.std.proofs.lemmas.Option.{slice_get-get_or, none-some}
 use Rattle.std.proofs.lemmas.Slice.Eq.{bytes_eq-Decides}
-
-place_or_length-map : {X Y : Type 0} (f : X → Y) (p : Y → Bool) (xs : List X) → position_or_len p (map f xs) ≡ position_or_len (λ x. p (f x)) xs
-place_or_length-map f p [] = refl
-place_or_length-map f p (x ∷ xs) = ap (λ n. cond (not (p (f x))) (1 + n) 0) (place_or_length-map f p xs)
-
--- the place that a view of the elements has
-pub place_in_view : {X Y : Type 0} (f : X → Y) (p : Y → Bool) (xs : List X) → position p (map f xs) ≡ position (λ x. p (f x)) xs
-place_in_view f p xs = rw (place_or_length-map f p xs, length-map xs f) refl
 
 pub found_at : (names : List (List ℕ)) (name : List ℕ) (k : ℕ) → position (λ n. bytes_eq n name) names ≡ Some k → slice_get names k ≡ Some name
 found_at names name k e =

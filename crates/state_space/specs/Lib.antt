@@ -6,3 +6,4 @@ pub mod OneProof
 pub mod Spaces
 pub mod Fitting
 pub mod ValueTexts
+pub mod NameIndexes

@@ -4,6 +4,7 @@
 
 mod keyword;
 mod name;
+mod name_index;
 mod range;
 mod space;
 mod state;
@@ -12,6 +13,7 @@ mod values;
 
 pub use keyword::{Keyword, keyword_of, law_of_keywords};
 pub use name::{Name, NameRefusal, has_name_form, is_word_byte};
+pub use name_index::NameIndex;
 pub use range::Range;
 pub use space::{AddRefusal, Space};
 pub use state::State;

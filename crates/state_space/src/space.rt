@@ -5,9 +5,11 @@ ghost use Rattle.std.specs.Prelude.{◌≡◌, ◌≢◌, ◌≤◌, ◌-◌, �
 ghost use Rattle.state_space.specs.Ranges.{form_of, IsGoodRange};
 ghost use Rattle.state_space.specs.Ranges.{size_of};
 ghost use Rattle.state_space.specs.Members.{full_of};
+ghost use Rattle.state_space.specs.NameIndexes.{IsIndex, IsIndex-prop};
 ghost use Rattle.state_space.specs.OneProof.{IsGoodRange-prop};
 
 use crate::name::Name;
+use crate::name_index::NameIndex;
 use crate::range::Range;
 use crate::values::{Values, VarId};
 use std::alloc::{AllocError, AllocFailed, Global};
@@ -53,15 +55,17 @@ struct Variable {
     ghost good: { IsGoodRange (form_of range) } by { IsGoodRange-prop (form_of range) },
 }
 
-/// A list of at most 64 variables of distinct names, each with a range of 1 to 64 values.
-#[derive(Debug, Drop)]
+/// A list of at most 64 variables of distinct names, each with a range of 1 to 64 values. A name is found by its hash.
+#[derive(Drop)]
 pub struct Space {
     variables: Vec<Variable>,
+    places: NameIndex,
     // All value indexes of each variable.
     full: Vec<Values>,
     pub ghost whole: { map (λ set. set.0) full.items ≡ full_of (map (λ v. size_of (form_of v.range)) variables.items) },
     pub ghost few: { length variables.items ≤ 64 },
     pub ghost apart: { AllPairs (λ a b. a ≢ b) (map (λ v. v.name) variables.items) },
+    pub ghost indexed: { IsIndex places (map (λ v. v.name) variables.items) } by { IsIndex-prop places (map (λ v. v.name) variables.items) },
 }
 
 // All indexes below the size, which is at most 64.
@@ -76,32 +80,28 @@ fn all_below(size: u8) -> Values
     }
 }
 
-// Appends to both lists, or to none of them.
-fn push_both(
+// Appends to each list, and to the index of the names, or to none of them.
+fn push_all(
     variables: &mut Vec<Variable>,
     variable: Variable,
+    places: &mut NameIndex,
     full: &mut Vec<Values>,
     all: Values,
 ) -> Result<(), AllocError>
     ensures variables { variables.new.items ≡ (if is_ok result then variables.old.items ++ variable ∷ [] else variables.old.items) }
+    ensures places { IsIndex places.old (map (λ v. v.name) variables.old.items) → IsIndex places.new (map (λ v. v.name) variables.new.items) }
     ensures full { full.new.items ≡ (if is_ok result then full.old.items ++ all ∷ [] else full.old.items) }
 {
-    full.push(all)?;
-    let pushed = variables.push(variable);
-    if pushed.is_err() {
-        full.pop();
+    let alloc = *variables.allocator();
+    let place = variables.len();
+    // Room first, so that nothing fails once the name is in the index.
+    variables.reserve(1)?;
+    full.reserve(1)?;
+    places.push(alloc, variable.name.bytes(), place)?;
+    if variables.push(variable).is_err() || full.push(all).is_err() {
+        unreachable!();
     }
-    pushed?;
     Ok(())
-}
-
-// The place of a name among the variables.
-fn place_of(variables: &[Variable], name: &[u8]) -> Option<usize>
-    ensures place { result ≡ position (λ v. bytes_eq v.name name.now) variables.now }
-{
-    variables
-        .iter()
-        .position(|variable| variable.name.bytes() == name)
 }
 
 impl Space {
@@ -115,6 +115,7 @@ impl Space {
     {
         Space {
             variables: Vec::new(alloc),
+            places: NameIndex::new(alloc),
             full: Vec::new(alloc),
         }
     }
@@ -134,7 +135,7 @@ impl Space {
         ensures some { IsSome result ↔ Contains (names self.now) name.now }
         ensures none { IsNone result ↔ ¬ (Contains (names self.now) name.now) }
     {
-        let place = place_of(&self.variables, name)?;
+        let place = self.places.place(name)?;
         Some(VarId(place as u8))
     }
 
@@ -197,7 +198,13 @@ impl Space {
         let id = VarId(self.count());
         let all = all_below(range.size() as u8);
         let variable = Variable { name, range };
-        push_both(&mut self.variables, variable, &mut self.full, all)?;
+        push_all(
+            &mut self.variables,
+            variable,
+            &mut self.places,
+            &mut self.full,
+            all,
+        )?;
         Ok(id)
     }
 }
