@@ -29,7 +29,7 @@ use Rattle.goal_model.specs.Patterns.{pattern_in}
 use Rattle.goal_model.specs.Models.{PropertyForm, GoalForm, ObstacleForm, AgentForm, OperationForm, RequirementForm, LinkForm, refine, obstruct, operationalise, assign, TraceForm, ModelForm, sizes_of, LinkIsOf, HasMembers, PartsFit}
 use Rattle.goal_model.specs.Models as models
 use Rattle.goal_model.specs.Reachability.{closes_cycle}
-use Rattle.goal_model.specs.Marking.{HasGoalsBelow}
+use Rattle.goal_model.specs.Marking.{HasGoalsBelow, HasParentBelow}
 use Rattle.goal_model.specs.Drafts.{DraftForm, scope_of, declares, kept_if, keeps, expected_at}
 use Rattle.goal_model.specs.WholeDrafts.{counts_of, count_of, FitFirst, TraceFitsFirst, IsDraft}
 use Rattle.goal_model.specs.Resolution.{with_variable, has_few_members, with_entity_type, all_fresh, with_attribute, plain_in, one_taken, two_taken, with_property, with_goal, with_obstacle, with_agent, with_operation, with_requirement, with_link, with_conflict, with_expected, with_trace, set_of, uncontrolled, taken}
@@ -373,3 +373,11 @@ subgoals_below m (assign s p k) h from = All-nil (λ g. g < length m.goals)
 
 pub links_below : (m : ModelForm) → All (LinkIsOf m) m.links → All (HasGoalsBelow (length m.goals)) m.links
 links_below m all k d l = subgoals_below m (get_or m.links k d) (all k d l)
+
+-- so is the goal that it refines
+parent_below : (m : ModelForm) (l : LinkForm) → LinkIsOf m l → HasParentBelow (length m.goals) l
+parent_below m (refine s p xs k) h = h.0
+parent_below m l h = tt
+
+pub parents_below : (m : ModelForm) → All (LinkIsOf m) m.links → All (HasParentBelow (length m.goals)) m.links
+parents_below m all k d l = parent_below m (get_or m.links k d) (all k d l)

@@ -14,6 +14,7 @@ pub mod Finished
 pub mod TakenTraces
 pub mod ReachMarks
 pub mod ReachSearch
+pub mod Refined
 pub mod Stepping
 pub mod Tables
 pub mod MeasuredLists

@@ -17,7 +17,7 @@ use Rattle.formula_table.proofs.CoreLaws.{core_size}
 use Rattle.goal_model.specs.declared.list_size.Measured.{Measured}
 use Rattle.goal_model.specs.Items.{signed}
 use Rattle.goal_model.specs.SmallLists.{is_small_list}
-use Rattle.goal_model.specs.Sizes.{Measures, weight, IsWithin}
+use Rattle.goal_model.specs.Sizes.{Measures, weight, IsBounded}
 
 -- ---- lists of which all have something
 All_tail : {X : Type 0} (P : X → Type 0) (x : X) (xs : List X) → All P (x ∷ xs) → All P xs
@@ -112,7 +112,7 @@ module _ (sizes : List ℕ) (list : List Ltl) (positive : Bool) (f : Ltl) where
   }
 
   -- a formula more where a total bounds what was there
-  pub within_more : (total : ℕ) → IsWithin sizes list total → IsWithin sizes more (min (total + weight sizes positive f) 4097)
+  pub within_more : (total : ℕ) → IsBounded sizes list total → IsBounded sizes more (min (total + weight sizes positive f) 4097)
   within_more total within few = by (nat_le (levels core) 1000) refl few
     where
       by : (b : Bool) → nat_le (levels core) 1000 ≡ b → min (total + (if b then min (nodes core) 4097 else 4097)) 4097 ≤ 4096

@@ -1,26 +1,17 @@
 -- Names that are walked, and looked up among those before them by their hashes.
-use Rattle.std.proofs.Common.{◌≡◌, ℕ, ◌+◌, ◌<◌, Bool, true, false, if◌then◌else◌, List, [], ◌∷◌, ◌++◌, length, map, get_or, take, drop, Result, refl, sym, ap, ap₂, subst, ◌∙◌, bytes_eq, nat_eq, Bor}
+use Rattle.std.proofs.Common.{◌≡◌, ℕ, ◌+◌, ◌<◌, Bool, true, false, if◌then◌else◌, List, [], ◌∷◌, ◌++◌, length, map, get_or, take, drop, Result, refl, sym, ap, ap₂, subst, ◌∙◌, nat_eq, Bor}
 use Rattle.std.specs.Prelude.{not, ◌||◌}
 use Rattle.std.specs.List.{list_any}
-use Rattle.std.specs.Cmp.Lexicographic.{pointwise, bytes_decides}
+use Rattle.std.specs.Cmp.Lexicographic.{pointwise}
 use Rattle.std.proofs.lemmas.List.{at_drop_more, take_more, map-append}
-use Rattle.std.proofs.lemmas.Slice.Eq.{bytes_eq-Decides}
 use Rattle.indexmap.specs.IndexSet.{insert_key}
+use Rattle.state_space.proofs.NameIndexes.{same_bytes}
 use Rattle.goal_model.specs.declared.refusal.RefusalKind.TheVariants.{DuplicateName}
 use Rattle.goal_model.specs.declared.refusal.Stop.{Stop}
 use Rattle.goal_model.specs.Names.{is_among}
 use Rattle.goal_model.specs.Refusals.{and_then, holds, refused, Gives}
 use Rattle.goal_model.specs.ValueIndexes.{apart_from}
 use Rattle.goal_model.proofs.Walking.{refused_as}
-
-same_tests : (b c : Bool) → (b ≡ true → c ≡ true) → (c ≡ true → b ≡ true) → b ≡ c
-same_tests true c there back = sym (there refl)
-same_tests false true there back = back refl
-same_tests false false there back = refl
-
--- the two tests of bytes are one
-pub same_bytes : (x n : List ℕ) → pointwise nat_eq x n ≡ bytes_eq n x
-same_bytes x n = same_tests (pointwise nat_eq x n) (bytes_eq n x) (λ e. (bytes_eq-Decides n x).1 (sym ((bytes_decides x n).0 e))) (λ e. (bytes_decides x n).1 (sym ((bytes_eq-Decides n x).0 e)))
 
 -- whether two borrowed names are the same
 abbrev pub is_same : Bor (List ℕ) → Bor (List ℕ) → Bool

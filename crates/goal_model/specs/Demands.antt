@@ -4,12 +4,9 @@ use Rattle.std.specs.Option.{option_to_list}
 use Rattle.std.specs.List.{flat_map}
 use Rattle.temporal_logic.specs.Fits.{Fits}
 use Rattle.temporal_logic.specs.Ltl.{Ltl}
-use Rattle.temporal_logic.specs.Traces.{IsPeriodic}
 use Rattle.temporal_logic.specs.Trees.{tree_of}
-use Rattle.temporal_logic.specs.Truth.{Trace, Meets}
 use Rattle.formula_table.specs.SmallLists.{AreSmall}
 use Rattle.goal_model.specs.declared.item.Wanted.{Wanted}
-use Rattle.goal_model.specs.declared.item.Wanted.TheVariants.{NoTrace, SomeTrace}
 use Rattle.goal_model.specs.declared.demand.Demand.{Demand}
 use Rattle.goal_model.specs.Models.{ModelForm, sizes_of}
 use Rattle.goal_model.specs.Items.{LabelForm, ItemForm, label_of, list_of}
@@ -31,12 +28,3 @@ demands_of m items = flat_map (λ i. option_to_list (option_map (λ w. record { 
 pub record IsAnswerable (m : ModelForm) (list : List Ltl) : Type 0 where
   pub fit : All (Fits m.ranges) list
   pub small : AreSmall (sizes_of m) list
-
--- some ultimately periodic trace over the model's variables meets the list
-abbrev pub HasTrace : ModelForm → List Ltl → Type 0
-HasTrace m list = (t : Trace) × IsPeriodic (sizes_of m) t × Meets t list
-
--- what is wanted of a list is so: no such trace meets it, or some does
-abbrev pub Stands : ModelForm → Wanted → List Ltl → Type 0
-Stands m NoTrace list = HasTrace m list → ⊥
-Stands m SomeTrace list = HasTrace m list

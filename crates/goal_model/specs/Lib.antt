@@ -26,6 +26,6 @@ pub mod Resolution
 pub mod Outcomes
 pub mod KnownParts
 pub mod Demands
+pub mod Conditions
 pub mod Labels
 pub mod Declarations
-pub mod FirstPlaces

@@ -27,5 +27,5 @@ abbrev pub both_of : Weight → ℕ × ℕ
 both_of w = (w.positive, w.negative)
 
 -- where a total is at most 4,096, the closure of a list's cores has no more formulas than that, and no core more than 1,000 levels
-abbrev pub IsWithin : List ℕ → List Ltl → ℕ → Type 0
-IsWithin sizes list total = total ≤ 4096 → (length (closure_of (cores_of sizes list)) ≤ total) × All (λ f. levels (core_tree sizes true f) ≤ 1000) list
+abbrev pub IsBounded : List ℕ → List Ltl → ℕ → Type 0
+IsBounded sizes list total = total ≤ 4096 → (length (closure_of (cores_of sizes list)) ≤ total) × All (λ f. levels (core_tree sizes true f) ≤ 1000) list

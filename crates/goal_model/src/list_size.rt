@@ -1,7 +1,7 @@
 //! How large a list of formulas is. Formulas are put into a table of cores and counted there, so that what stands in a list twice counts
 //! once; no core is built, and no tableau is looked at.
 
-ghost use Rattle.std.specs.Prelude.{◌≡◌, ◌↔◌, ◌≤◌, ◌++◌, ◌∷◌, [], ℕ, List, IsTrue, IfOk, OnOk, length, take};
+ghost use Rattle.std.specs.Prelude.{◌≡◌, ◌↔◌, ◌≤◌, ◌++◌, ◌∷◌, [], ℕ, nat_le, if◌then◌else◌, List, IsTrue, IfOk, OnOk, length, take};
 ghost use Rattle.state_space.specs.Spaces.{ranges, sizes};
 ghost use Rattle.temporal_logic.specs.Fits.{Fits};
 ghost use Rattle.temporal_logic.specs.Ltl.{Ltl};
@@ -12,9 +12,9 @@ ghost use Rattle.formula_table.specs.Closures.{with_core};
 ghost use Rattle.formula_table.specs.Tables.{closure_in, IsKept};
 ghost use Rattle.goal_model.specs.Items.{signed};
 ghost use Rattle.goal_model.specs.SmallLists.{is_small_list};
-ghost use Rattle.goal_model.specs.Sizes.{Measures, weight as weight_form, both_weights, both_of, IsWithin};
+ghost use Rattle.goal_model.specs.Sizes.{Measures, both_weights, both_of, IsBounded};
 
-use bound_unfolding::{core_depth, core_size};
+use bound_unfolding::{core_depth, core_depths, core_sizes};
 use formula_table::{PutRefusal, Table};
 use source_sink::Memory;
 use state_space::Space;
@@ -46,16 +46,11 @@ pub(crate) struct Weight {
     pub(crate) negative: u64,
 }
 
-// What the core of a formula, positive or negative, weighs.
-fn core_weight(space: &Space, f: &Formula, positive: bool) -> u64
-    requires { Fits (ranges space.now) (tree_of f.now) }
-    ensures { result ≡ weight_form (sizes space.now) positive (tree_of f.now) }
+// What a core of so many nodes and levels weighs.
+fn weight_of(nodes: u64, levels: u64) -> u64
+    ensures { result ≡ (if nat_le levels 1000 then nodes else 4097) }
 {
-    if core_depth(space, f, positive) > 1000 {
-        4097
-    } else {
-        core_size(space, f, positive)
-    }
+    if levels <= 1000 { nodes } else { 4097 }
 }
 
 /// What a formula weighs.
@@ -63,9 +58,18 @@ pub(crate) fn weigh(space: &Space, f: &Formula) -> Weight
     requires { Fits (ranges space.now) (tree_of f.now) }
     ensures { both_of result ≡ both_weights (sizes space.now) (tree_of f.now) }
 {
+    let nodes = core_sizes(space, f);
+    // A core has no more levels than nodes.
+    if nodes.positive <= 1000 && nodes.negative <= 1000 {
+        return Weight {
+            positive: nodes.positive,
+            negative: nodes.negative,
+        };
+    }
+    let levels = core_depths(space, f);
     Weight {
-        positive: core_weight(space, f, true),
-        negative: core_weight(space, f, false),
+        positive: weight_of(nodes.positive, levels.positive),
+        negative: weight_of(nodes.negative, levels.negative),
     }
 }
 
@@ -119,7 +123,7 @@ impl Measured {
 
     /// How many formulas are in the table; 4097 where the list is too large.
     pub(crate) fn total(&self) -> u64
-        ensures { (sizes : List ℕ) (list : List Ltl) → Measures sizes list self.now → IsWithin sizes list result }
+        ensures { (sizes : List ℕ) (list : List Ltl) → Measures sizes list self.now → IsBounded sizes list result }
     {
         if self.is_small {
             self.table.len() as u64

@@ -6,7 +6,7 @@ ghost use Rattle.temporal_logic.specs.Fits.{Fits};
 ghost use Rattle.goal_model.specs.Models.{ModelForm, contents_of, link_of, PartsFit};
 ghost use Rattle.goal_model.specs.Items.{requirement_formula, boundary_of, list_of};
 ghost use Rattle.goal_model.specs.KnownParts.{PartIsOf};
-ghost use Rattle.goal_model.specs.Sizes.{both_weights, both_of, IsWithin};
+ghost use Rattle.goal_model.specs.Sizes.{both_weights, both_of, IsBounded};
 ghost use Rattle.goal_model.specs.PartWeights.{weights_in, too_heavy, of_sign, weights_at, AreWeights};
 
 use crate::contents::{Contents, Link};
@@ -133,7 +133,7 @@ impl PartWeights {
     /// How many formulas there are at most in the table of a list that begins with the domain properties, of which there are so many, and
     /// goes on with these parts; 4097 where there may be more than 4096.
     pub(crate) fn total(&self, domains: u64, parts: &[(Part, bool)]) -> u64
-        ensures { (sizes : List ℕ) (m : ModelForm) → AreWeights sizes m self.now → All (λ p. PartIsOf m p.0) parts.now → IsWithin sizes (map (λ p. p.formula) m.domains) domains → IsWithin sizes (list_of m parts.now) result }
+        ensures { (sizes : List ℕ) (m : ModelForm) → AreWeights sizes m self.now → All (λ p. PartIsOf m p.0) parts.now → IsBounded sizes (map (λ p. p.formula) m.domains) domains → IsBounded sizes (list_of m parts.now) result }
     {
         let mut total = domains;
         'parts: for (part, positive) in parts {

@@ -8,20 +8,17 @@ use Rattle.model_text.specs.Readability.{IsReadable, Refuses}
 use Rattle.goal_model.specs.declared.refusal.RefusalKind.{RefusalKind}
 use Rattle.goal_model.specs.Models.{ModelForm}
 use Rattle.goal_model.specs.Resolution.{made, refuses, outcome_of}
-use Rattle.verdict_report.specs.declared.form.Form.{Form}
 use Rattle.verdict_report.specs.declared.report.Report.{Report}
-use Rattle.verdict_report.specs.Reports.{Reports}
-use Rattle.verdict_report.specs.ReportTexts.{report_text}
 use Rattle.kaos_program.specs.declared.command.Command.{Command}
-use Rattle.kaos_program.specs.declared.command.Command.TheVariants.{Check, Trace}
+use Rattle.kaos_program.specs.declared.command.Command.TheVariants.{Trace}
 use Rattle.kaos_program.specs.declared.status.Status.{Status}
 use Rattle.kaos_program.specs.declared.status.Status.TheVariants as statuses
-use Rattle.kaos_program.specs.Statuses.{status_of, status_of_truths}
+use Rattle.kaos_program.specs.Statuses.{status_of_truths}
 use Rattle.kaos_program.specs.Unanswered.{first_unanswered}
 use Rattle.kaos_program.specs.Truths.{AreTruths}
 use Rattle.kaos_program.specs.RefusalTexts.{text_refusal, model_refusal, not_built}
 use Rattle.kaos_program.specs.TruthTexts.{truths_text}
-use Rattle.kaos_program.specs.Answering.{IsAccepted, IsRefused, a_text, its_statements, a_link, Answers, a_refusal, a_report, truths}
+use Rattle.kaos_program.specs.Answering.{IsAccepted, IsRefused, a_text, its_statements, a_link, Answers, a_refusal, truths}
 
 -- a cause that is not want of memory
 pub text_cause : (bytes : List ℕ) (e : TextRefusal) → (e ≡ texts.Memory) ⊎ Refuses bytes e → (e ≡ texts.Memory → ⊥) → Refuses bytes e
@@ -37,10 +34,6 @@ model_line bytes ss kind statement name line size read cause is = rw is (its_sta
 pub link_line : (bytes : List ℕ) (ss : List StatementForm) (m : ModelForm) (statement : ℕ) (line : List ℕ) → length bytes ≤ 1048576 → IsReadable bytes ss → outcome_of ss ≡ made m → first_unanswered m.links ≡ Some statement
     → line ≡ not_built statement → IsRefused bytes line
 link_line bytes ss m statement line size read makes first is = rw is (a_link ss m statement size read makes first)
-
-pub reported : (bytes : List ℕ) (ss : List StatementForm) (m : ModelForm) (budget : ℕ) (form : Form) (r : Report) (status : Status) (out : List ℕ) → IsAccepted bytes ss m → Reports m budget r → status ≡ status_of r
-    → out ≡ report_text form m.names m.ranges r → Answers bytes (Check budget form) status (Some r) out
-reported bytes ss m budget form r status out a reports s o = rw (s, o) (a_report ss m budget form r a reports)
 
 pub traced : (bytes : List ℕ) (ss : List StatementForm) (m : ModelForm) (rows : List (List Bool)) (status : Status) (out : List ℕ) → IsAccepted bytes ss m → AreTruths m rows → status ≡ status_of_truths rows → out ≡ truths_text m rows
     → Answers bytes Trace status None out

@@ -6,11 +6,13 @@ pub mod FoundValues
 pub mod ReadOptions
 pub mod SpelledOptions
 pub mod SpelledValues
-pub mod LinkDemands
+pub mod AskedLinks
 pub mod QueryParts
 pub mod FoundAnswers
-pub mod MadeEntries
+pub mod AskedDemands
+pub mod AskedEntries
 pub mod FittingEvidence
+pub mod Achieved
 pub mod TruthRows
 pub mod Answering
 pub mod RunParts

@@ -13,13 +13,12 @@ use Rattle.model_text.proofs.Texts.{spelled_once, never_both}
 use Rattle.goal_model.specs.declared.refusal.RefusalKind.{RefusalKind}
 use Rattle.goal_model.specs.Models.{GoalForm, TraceForm, ModelForm}
 use Rattle.goal_model.specs.Resolution.{made, refuses, outcome_of}
-use Rattle.goal_model.specs.Items.{LabelForm, label_of, items_of}
-use Rattle.goal_model.specs.Demands.{DemandForm, demands_of}
+use Rattle.goal_model.specs.Items.{LabelForm, label_of}
 use Rattle.verdict_report.specs.declared.report.Verdict.{Verdict}
 use Rattle.verdict_report.specs.declared.report.Entry.{Entry}
 use Rattle.verdict_report.specs.declared.report.Report.{Report}
-use Rattle.verdict_report.specs.Reports.{IsEntry, Reports, is_failed, is_withheld, failed_count, withheld_count}
-use Rattle.verdict_report.proofs.VerdictLaws.{one_right}
+use Rattle.verdict_report.specs.Reports.{Question, of_traces, of_agent, questions_of, IsEntry, Reports, is_failed, is_withheld, failed_count, withheld_count}
+use Rattle.verdict_report.proofs.VerdictLaws.{one_right, one_cover}
 use Rattle.kaos_program.specs.declared.command.Command.{Command}
 use Rattle.kaos_program.specs.declared.status.Status.{Status}
 use Rattle.kaos_program.specs.declared.status.Status.TheVariants.{Held, Failed, Withheld}
@@ -62,23 +61,27 @@ accepted_refused bytes line ss m a (a_link rs n statement size read makes first)
 abbrev verdict_in : Entry → LabelForm × Verdict
 verdict_in e = (label_of e.label, e.verdict)
 
--- two right entries for a demand
-one_entry : (m : ModelForm) (budget : ℕ) (d : DemandForm) (e f : Entry) → IsEntry m budget d e → IsEntry m budget d f → verdict_in e ≡ verdict_in f
-one_entry m budget d e f a b =
-    let label : label_of e.label ≡ label_of f.label = a.label ∙ sym b.label in
-    let verdict : e.verdict ≡ f.verdict = one_right m budget d.wanted d.list e.verdict f.verdict e.evidence f.evidence a.right b.right in
-    cc (label, verdict)
+-- two right entries for a question
+one_entry : (m : ModelForm) (budget : ℕ) (q : Question) (e f : Entry) → IsEntry m budget q e → IsEntry m budget q f → verdict_in e ≡ verdict_in f
+one_entry m budget (of_traces label parts wanted) e f a b =
+    let labels : label_of e.label ≡ label_of f.label = a.0 ∙ sym b.0 in
+    let verdicts : e.verdict ≡ f.verdict = one_right m budget wanted parts e.verdict f.verdict e.evidence f.evidence a.2 b.2 in
+    cc (labels, verdicts)
+one_entry m budget (of_agent label goal agent) e f a b =
+    let labels : label_of e.label ≡ label_of f.label = a.0 ∙ sym b.0 in
+    let verdicts : e.verdict ≡ f.verdict = one_cover m goal agent e.verdict f.verdict e.evidence f.evidence a.2 b.2 in
+    cc (labels, verdicts)
 
--- and for each of a list of demands
-same_entries : (m : ModelForm) (budget : ℕ) (ds : List DemandForm) (es fs : List Entry) → AllZip (IsEntry m budget) ds es → AllZip (IsEntry m budget) ds fs → map verdict_in es ≡ map verdict_in fs
+-- and for each of a list of questions
+same_entries : (m : ModelForm) (budget : ℕ) (qs : List Question) (es fs : List Entry) → AllZip (IsEntry m budget) qs es → AllZip (IsEntry m budget) qs fs → map verdict_in es ≡ map verdict_in fs
 same_entries m budget [] [] [] a b = refl
 same_entries m budget [] (e ∷ es) fs a b = absurd a
 same_entries m budget [] [] (f ∷ fs) a b = absurd b
-same_entries m budget (d ∷ ds) [] fs a b = absurd a
-same_entries m budget (d ∷ ds) (e ∷ es) [] a b = absurd b
-same_entries m budget (d ∷ ds) (e ∷ es) (f ∷ fs) a b =
-    let first = one_entry m budget d e f a.0 b.0 in
-    let rest = same_entries m budget ds es fs a.1 b.1 in
+same_entries m budget (q ∷ qs) [] fs a b = absurd a
+same_entries m budget (q ∷ qs) (e ∷ es) [] a b = absurd b
+same_entries m budget (q ∷ qs) (e ∷ es) (f ∷ fs) a b =
+    let first = one_entry m budget q e f a.0 b.0 in
+    let rest = same_entries m budget qs es fs a.1 b.1 in
     cc (first, rest)
 
 -- a count by verdicts is one over the labels and verdicts
@@ -101,7 +104,7 @@ same_status report other same =
 
 -- two right reports of a model under a budget
 same_reports : (m : ModelForm) (budget : ℕ) (report other : Report) → Reports m budget report → Reports m budget other → verdicts_in report ≡ verdicts_in other
-same_reports m budget report other a b = same_entries m budget (demands_of m (items_of m)) report.entries.items other.entries.items a.entries b.entries
+same_reports m budget report other a b = same_entries m budget (questions_of m) report.entries.items other.entries.items a.entries b.entries
 
 -- ---- truth of goals on traces
 
@@ -147,11 +150,11 @@ pub record Agree (first second : Status) (report other : Option Report) : Type 0
 pub one_answer : (bytes : List ℕ) (command : Command) (first second : Status) (report other : Option Report) (output further : List ℕ)
     → Answers bytes command first report output → Answers bytes command second other further → Agree first second report other
 one_answer bytes command first second report other output further (a_refusal c line refused) (a_refusal d other_line also) = record { status = refl; verdicts = refl }
-one_answer bytes command first second report other output further (a_refusal c line refused) (a_report ss m budget form r accepted reports) = absurd (accepted_refused bytes line ss m accepted refused)
+one_answer bytes command first second report other output further (a_refusal c line refused) (a_report ss m budget form r accepted reports achieved) = absurd (accepted_refused bytes line ss m accepted refused)
 one_answer bytes command first second report other output further (a_refusal c line refused) (truths ss m rows accepted right) = absurd (accepted_refused bytes line ss m accepted refused)
-one_answer bytes command first second report other output further (a_report ss m budget form r accepted reports) (a_refusal c line refused) = absurd (accepted_refused bytes line ss m accepted refused)
+one_answer bytes command first second report other output further (a_report ss m budget form r accepted reports achieved) (a_refusal c line refused) = absurd (accepted_refused bytes line ss m accepted refused)
 one_answer bytes command first second report other output further (truths ss m rows accepted right) (a_refusal c line refused) = absurd (accepted_refused bytes line ss m accepted refused)
-one_answer bytes command first second report other output further (a_report ss m budget form r accepted reports) (a_report rs n limit shape q also others) =
+one_answer bytes command first second report other output further (a_report ss m budget form r accepted reports achieved) (a_report rs n limit shape q also others reached) =
     let same = one_model bytes ss rs m n accepted.readable accepted.made also.readable also.made in
     let verdicts = same_reports m budget r q reports (subst (λ (x : ModelForm). Reports x budget q) (sym same) others) in
     record { status = same_status r q verdicts; verdicts = ap Some verdicts }

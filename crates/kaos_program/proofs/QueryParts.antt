@@ -1,4 +1,4 @@
--- Queries and their answers, those of one demand more at a time.
+-- Queries and their answers, one more at a time.
 use Rattle.std.proofs.Common.{◌≡◌, ℕ, ◌+◌, ◌<◌, List, [], ◌∷◌, ◌++◌, map, length, get_or, take, sym, ap, ap₂, ◌∙◌, subst}
 use Rattle.std.specs.Prelude.{All}
 use Rattle.std.specs.List.{AllZip}
@@ -22,7 +22,7 @@ use Rattle.bound_unfolding.specs.CoreLists.{cores_of}
 use Rattle.goal_model.specs.declared.demand.Demand.{Demand}
 use Rattle.goal_model.specs.Models.{ModelForm, sizes_of}
 use Rattle.goal_model.specs.Demands.{IsAnswerable}
-use Rattle.verdict_report.specs.Verdicts.{query_cores}
+use Rattle.kaos_program.specs.Asking.{query_asked}
 use Rattle.kaos_program.proofs.ModelParts.{All-unmap, sizes_same}
 
 -- the items before a place, and the one there
@@ -31,10 +31,7 @@ taken xs k x inside at = take_more xs k x inside ∙ ap (λ y. take k xs ++ y �
 
 -- ---- over a space that has the model's ranges
 module _ (m : ModelForm) (space : Space) (same : ranges space ≡ m.ranges) where
-  module _ (ds : List Demand) (all : All (λ d. IsAnswerable m (map tree_of d.list.items)) ds) (k : ℕ) (d : Demand) (inside : k < length ds) (at : d ≡ get_or ds k d) where
-    answerable : IsAnswerable m (map tree_of d.list.items)
-    answerable = subst (λ (e : Demand). IsAnswerable m (map tree_of e.list.items)) (sym at) (all k d inside)
-
+  module _ (d : Demand) (answerable : IsAnswerable m (map tree_of d.list.items)) where
     -- a demand's list is of the space, and small
     pub list_fits : (list : List Formula) → list ≡ d.list.items → All (λ f. Fits (ranges space) (tree_of f)) list
     list_fits list is =
@@ -46,15 +43,13 @@ module _ (m : ModelForm) (space : Space) (same : ranges space ≡ m.ranges) wher
         subst (λ (fs : List Formula). AreSmall (sizes space) (map tree_of fs)) (sym is)
         (subst (λ (ns : List ℕ). AreSmall ns (map tree_of d.list.items)) (sym (sizes_same space m same)) answerable.small)
 
-    -- one query more
-    pub cores_more : (qs all : List Query) (q : Query) (list : List Formula) → list ≡ d.list.items → map cores_in qs ≡ map (λ (d : Demand). query_cores m (map tree_of d.list.items)) (take k ds)
-        → cores_in q ≡ cores_of (sizes space) (map tree_of list) → all ≡ qs ++ q ∷ []
-        → map cores_in all ≡ map (λ (d : Demand). query_cores m (map tree_of d.list.items)) (take (k + 1) ds)
-    cores_more qs all q list is before here pushed =
-        let cores = λ (d : Demand). query_cores m (map tree_of d.list.items) in
-        let of_demand : cores_in q ≡ cores d = here ∙ ap₂ (λ (ns : List ℕ) (fs : List Formula). cores_of ns (map tree_of fs)) (sizes_same space m same) is in
-        ap (map cores_in) pushed ∙ map-append cores_in qs (q ∷ []) ∙ ap₂ (λ (xs : List (List CoreForm)) (x : List CoreForm). xs ++ x ∷ []) before of_demand
-        ∙ sym (map-append cores (take k ds) (d ∷ [])) ∙ ap (map cores) (sym (taken ds k d inside at))
+  -- one query more
+  pub cores_more : (ds : List Demand) (d : Demand) (qs all : List Query) (q : Query) (list : List Formula) → list ≡ d.list.items → map cores_in qs ≡ map (query_asked m) ds
+      → cores_in q ≡ cores_of (sizes space) (map tree_of list) → all ≡ qs ++ q ∷ [] → map cores_in all ≡ map (query_asked m) (ds ++ d ∷ [])
+  cores_more ds d qs all q list is before here pushed =
+      let of_demand : cores_in q ≡ query_asked m d = here ∙ ap₂ (λ (ns : List ℕ) (fs : List Formula). cores_of ns (map tree_of fs)) (sizes_same space m same) is in
+      ap (map cores_in) pushed ∙ map-append cores_in qs (q ∷ []) ∙ ap₂ (λ (xs : List (List CoreForm)) (x : List CoreForm). xs ++ x ∷ []) before of_demand
+      ∙ sym (map-append (query_asked m) ds (d ∷ []))
 
   -- and all of them are over the model's variables
   pub over_more : (qs all : List Query) (q : Query) → All (λ q. All (IsOver (sizes_of m)) (cores_in q)) qs → All (IsOver (sizes space)) (cores_in q) → all ≡ qs ++ q ∷ []

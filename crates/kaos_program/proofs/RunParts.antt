@@ -2,9 +2,9 @@
 use Rattle.std.proofs.Common.{◌≡◌, ℕ, ◌≤◌, true, List, length, Option, Some, None, refl, sym, ap, ◌∙◌, length-append, arith}
 use Rattle.std.specs.Prelude.{String}
 use Rattle.std.specs.Global.{Global}
-use Rattle.std.specs.Io.KnownBytes.{Appends, Keeps}
+use Rattle.std.specs.Io.KnownBytes.{Keeps}
 use Rattle.source_sink.specs.Causes.{Rose}
-use Rattle.source_sink.specs.Bytes.{IsAllOf, TakesMany, AppendsFront}
+use Rattle.source_sink.specs.Bytes.{IsAllOf, TakesMany}
 use Rattle.verdict_report.specs.declared.report.Report.{Report}
 use Rattle.kaos_program.specs.declared.command.Command.{Command}
 use Rattle.kaos_program.specs.declared.status.Status.{Status}
@@ -16,7 +16,7 @@ use Rattle.kaos_program.specs.UsageText.{usage_text}
 use Rattle.kaos_program.specs.RefusalTexts.{too_long_text}
 use Rattle.kaos_program.specs.Answering.{too_long as a_long_text, a_refusal}
 use Rattle.kaos_program.specs.Finishing.{Finishes, whole, cut_off}
-use Rattle.kaos_program.specs.Headline.{End, AnswersAll, IsDue, for_words, for_text, Headline}
+use Rattle.kaos_program.specs.Headline.{End, AnswersAll, for_words, for_text, Headline}
 
 -- a source that gave more bytes than the limit has more than the limit
 long_source : (old new : Option (List ℕ)) (n : ℕ) → TakesMany old new n → (bytes : List ℕ) × IsAllOf old bytes × (n ≤ length bytes)

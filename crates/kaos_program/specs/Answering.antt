@@ -1,5 +1,6 @@
 -- What is answered to the bytes of a text under each command.
 use Rattle.std.specs.Prelude.{◌≡◌, ℕ, ◌<◌, ◌≤◌, Bool, List, length, Option, Some, None}
+use Rattle.std.specs.List.{AllZip}
 use Rattle.model_text.specs.declared.text.TextRefusal.{TextRefusal}
 use Rattle.model_text.specs.Statements.{StatementForm}
 use Rattle.model_text.specs.Readability.{IsReadable, Refuses}
@@ -8,13 +9,14 @@ use Rattle.goal_model.specs.Models.{ModelForm}
 use Rattle.goal_model.specs.Resolution.{made, refuses, outcome_of}
 use Rattle.verdict_report.specs.declared.form.Form.{Form}
 use Rattle.verdict_report.specs.declared.report.Report.{Report}
-use Rattle.verdict_report.specs.Reports.{Reports}
+use Rattle.verdict_report.specs.Reports.{questions_of, Reports}
 use Rattle.verdict_report.specs.ReportTexts.{report_text}
 use Rattle.kaos_program.specs.declared.command.Command.{Command}
 use Rattle.kaos_program.specs.declared.command.Command.TheVariants.{Check, Trace}
 use Rattle.kaos_program.specs.declared.status.Status.{Status}
 use Rattle.kaos_program.specs.declared.status.Status.TheVariants as statuses
 use Rattle.kaos_program.specs.Statuses.{status_of, status_of_truths}
+use Rattle.kaos_program.specs.Achievements.{IsAchieved}
 use Rattle.kaos_program.specs.Unanswered.{first_unanswered}
 use Rattle.kaos_program.specs.Truths.{AreTruths}
 use Rattle.kaos_program.specs.RefusalTexts.{too_long_text, text_refusal, model_refusal, not_built}
@@ -38,10 +40,11 @@ pub data IsRefused (bytes : List ℕ) : List ℕ → Type 0 where
       → first_unanswered m.links ≡ Some statement → IsRefused bytes (not_built statement)
 
 -- the status, the report and the output that bytes have under a command: a text that is not accepted is refused; else there is the report
--- that answers each demand under the budget, in the form that is asked for, or the truth of each goal on each trace
+-- that answers each question under the budget, in the form that is asked for, in which a complete operationalisation that holds makes its
+-- goal true on each trace of its operations; or the truth of each goal on each trace
 pub data Answers (bytes : List ℕ) : Command → Status → Option Report → List ℕ → Type 0 where
   a_refusal : (command : Command) (line : List ℕ) → IsRefused bytes line → Answers bytes command statuses.Refused None line
   a_report : (ss : List StatementForm) (m : ModelForm) (budget : ℕ) (form : Form) (report : Report) → IsAccepted bytes ss m → Reports m budget report
-      → Answers bytes (Check budget form) (status_of report) (Some report) (report_text form m.names m.ranges report)
+      → AllZip (IsAchieved m) (questions_of m) report.entries.items → Answers bytes (Check budget form) (status_of report) (Some report) (report_text form m.names m.ranges report)
   truths : (ss : List StatementForm) (m : ModelForm) (rows : List (List Bool)) → IsAccepted bytes ss m → AreTruths m rows
       → Answers bytes Trace (status_of_truths rows) None (truths_text m rows)

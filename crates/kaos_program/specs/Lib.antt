@@ -6,6 +6,8 @@ pub mod Unanswered
 pub mod Truths
 pub mod TruthTexts
 pub mod RefusalTexts
+pub mod Asking
+pub mod Achievements
 pub mod Answering
 pub mod Readings
 pub mod Finishing

@@ -4,7 +4,6 @@ ghost use Rattle.std.specs.Prelude.{◌≡◌, ◌≤◌, ℕ, true, List, None,
 ghost use Rattle.model_text.specs.Statements.{StatementForm};
 ghost use Rattle.goal_model.specs.ModelViews.{model_of};
 ghost use Rattle.kaos_program.specs.declared.status.Status.TheVariants as statuses;
-ghost use Rattle.kaos_program.specs.Unanswered.{first_unanswered};
 ghost use Rattle.kaos_program.specs.Statuses.{is_answer};
 ghost use Rattle.kaos_program.specs.Answering.{IsAccepted, Answers};
 
@@ -46,7 +45,6 @@ fn check<A: Answerer>(
     budget: u32,
     form: Form,
 ) -> Result<Due, Memory>
-    requires answered { first_unanswered (model_of model.now).links ≡ None }
     ensures answered { (bytes : List ℕ) (ss : List StatementForm) → IsAccepted bytes ss (model_of model.now)
         → IfOk result (λ a. Answers bytes (Command.Check budget form) a.status a.report a.output.items) }
     ensures status { IfOk result (λ a. is_answer a.status ≡ true) }

@@ -1,54 +1,40 @@
-//! The report on a model, in phases: the demands, their queries, an answer to each query, and the entries.
+//! The report on a model, in phases: what is asked, the query of each demand, an answer to each query, and the entries.
 
-ghost use Rattle.std.specs.Prelude.{◌≡◌, ℕ, None, All, map, IfOk};
+ghost use Rattle.std.specs.Prelude.{◌≡◌, ℕ, All, map, length, IfOk};
 ghost use Rattle.std.specs.List.{AllZip};
 ghost use Rattle.temporal_logic.specs.Trees.{tree_of};
 ghost use Rattle.tableau_rules.specs.Answers.{IsValidAnswer};
 ghost use Rattle.tableau_rules.specs.Queries.{IsOver};
 ghost use Rattle.tableau_rules.specs.QueryView.{cores_in};
-ghost use Rattle.goal_model.specs.Models.{ModelForm, sizes_of};
+ghost use Rattle.goal_model.specs.Models.{sizes_of};
 ghost use Rattle.goal_model.specs.ModelViews.{model_of};
-ghost use Rattle.goal_model.specs.Items.{items_of};
-ghost use Rattle.goal_model.specs.Demands.{demand_of, demands_of, IsAnswerable};
-ghost use Rattle.verdict_report.specs.Verdicts.{query_cores, IsFound};
-ghost use Rattle.verdict_report.specs.Reports.{IsEntry, Reports};
-ghost use Rattle.kaos_program.specs.Unanswered.{first_unanswered};
+ghost use Rattle.goal_model.specs.Demands.{IsAnswerable};
+ghost use Rattle.verdict_report.specs.Reports.{Reports};
+ghost use Rattle.kaos_program.specs.Asking.{demands_in, query_asked, entries_of};
 ghost use Rattle.kaos_program.specs.Statuses.{status_of as status_of_report};
 
+use crate::asking::{Asked, all_asked};
 use crate::status::Status;
 use entailment::query_of;
-use goal_model::{Demand, Model, domain_demand};
-use refinement_graph::refinement_demands;
+use goal_model::Model;
 use source_sink::Memory;
 use std::alloc::Global;
 use tableau_rules::{Answer, Answerer, Query};
-use verdict_report::{Entry, Report, counts, entry};
+use verdict_report::{Entry, Report, assignment_entry, counts, entry};
 
-// The demands of a model, in the order of the report.
-fn demands(alloc: Global, model: &Model) -> Result<Vec<Demand>, Memory>
-    requires answered { first_unanswered (model_of model.now).links ≡ None }
-    ensures demands { IfOk result (λ ds. map demand_of ds.items ≡ demands_of (model_of model.now) (items_of (model_of model.now))) }
-    ensures answerable { IfOk result (λ ds. All (λ d. IsAnswerable (model_of model.now) (map tree_of d.list.items)) ds.items) }
-{
-    let mut demands = Vec::new(alloc);
-    demands.push(domain_demand(alloc, model)?)?;
-    'links: for link in 0..model.links().len() {
-        let mut more = refinement_demands(alloc, model, link)?;
-        demands.append(&mut more)?;
-    }
-    Ok(demands)
-}
-
-// The query of each demand.
-fn queries(alloc: Global, model: &Model, demands: &[Demand]) -> Result<Vec<Query>, Memory>
-    requires answerable { All (λ d. IsAnswerable (model_of model.now) (map tree_of d.list.items)) demands.now }
-    ensures cores { IfOk result (λ qs. map cores_in qs.items ≡ map (λ d. query_cores (model_of model.now) (map tree_of d.list.items)) demands.now) }
+// The query of each demand that is asked.
+fn queries(alloc: Global, model: &Model, asked: &[Asked]) -> Result<Vec<Query>, Memory>
+    requires answerable { All (λ d. IsAnswerable (model_of model.now) (map tree_of d.list.items)) (demands_in asked.now) }
+    ensures cores { IfOk result (λ qs. map cores_in qs.items ≡ map (query_asked (model_of model.now)) (demands_in asked.now)) }
     ensures over { IfOk result (λ qs. All (λ q. All (IsOver (sizes_of (model_of model.now))) (cores_in q)) qs.items) }
 {
     let space = model.space();
     let mut queries = Vec::new(alloc);
-    'demands: for demand in demands {
-        queries.push(query_of(alloc, space, &demand.list)?)?;
+    'asked: for one in asked {
+        match one {
+            Asked::Demand(demand) => queries.push(query_of(alloc, space, &demand.list)?)?,
+            Asked::Assignment(_, _) => {}
+        }
     }
     Ok(queries)
 }
@@ -72,29 +58,37 @@ fn answers<A: Answerer>(
     Ok(answers)
 }
 
-// What is found of each demand: all queries are answered before the first entry is made.
+// What is found of each demand that is asked: all queries are answered before the first entry is made.
 fn found<A: Answerer>(
     alloc: Global,
     answerer: &A,
     model: &Model,
-    demands: &[Demand],
+    asked: &[Asked],
     budget: u32,
 ) -> Result<Vec<Answer>, Memory>
-    requires answerable { All (λ d. IsAnswerable (model_of model.now) (map tree_of d.list.items)) demands.now }
-    ensures found { IfOk result (λ v. AllZip (λ d a. IsFound (model_of model.now) budget (map tree_of d.list.items) a) demands.now v.items) }
+    requires answerable { All (λ d. IsAnswerable (model_of model.now) (map tree_of d.list.items)) (demands_in asked.now) }
+    ensures found { IfOk result (λ v. AllZip (λ d a. IsValidAnswer (sizes_of (model_of model.now)) (query_asked (model_of model.now) d) budget a) (demands_in asked.now) v.items) }
 {
-    let queries = queries(alloc, model, demands)?;
+    let queries = queries(alloc, model, asked)?;
     answers(alloc, answerer, model, &queries, budget)
 }
 
-// The entry of each demand, of which there is an answer in the same order.
-fn entries(alloc: Global, demands: Vec<Demand>, answers: Vec<Answer>) -> Result<Vec<Entry>, Memory>
-    ensures entries { (m : ModelForm) (budget : ℕ) → AllZip (λ d a. IsFound m budget (map tree_of d.list.items) a) demands.items answers.items
-        → IfOk result (λ es. AllZip (IsEntry m budget) (map demand_of demands.items) es.items) }
+// The entries of all that is asked; the answers are those to the demands, in the same order.
+fn entries(alloc: Global, asked: Vec<Asked>, answers: Vec<Answer>) -> Result<Vec<Entry>, Memory>
+    requires answered { length (demands_in asked.items) ≡ length answers.items }
+    ensures entries { IfOk result (λ es. es.items ≡ entries_of asked.items answers.items) }
 {
+    let mut answers = answers.into_iter();
     let mut entries = Vec::new(alloc);
-    'demands: for (demand, answer) in demands.into_iter().zip(answers) {
-        entries.push(entry(demand.label, demand.wanted, answer))?;
+    'asked: for one in asked {
+        let entry = match one {
+            Asked::Demand(demand) => match answers.next() {
+                Some(answer) => entry(demand.label, demand.wanted, answer),
+                None => unreachable!(),
+            },
+            Asked::Assignment(label, cover) => assignment_entry(label, cover),
+        };
+        entries.push(entry)?;
     }
     Ok(entries)
 }
@@ -106,12 +100,11 @@ pub(crate) fn report<A: Answerer>(
     model: &Model,
     budget: u32,
 ) -> Result<Report, Memory>
-    requires answered { first_unanswered (model_of model.now).links ≡ None }
     ensures right { IfOk result (Reports (model_of model.now) budget) }
 {
-    let demands = demands(alloc, model)?;
-    let answers = found(alloc, answerer, model, &demands, budget)?;
-    let entries = entries(alloc, demands, answers)?;
+    let asked = all_asked(alloc, model)?;
+    let answers = found(alloc, answerer, model, &asked, budget)?;
+    let entries = entries(alloc, asked, answers)?;
     Ok(Report { budget, entries })
 }
 

@@ -6,13 +6,14 @@ ghost use Rattle.kaos_program.specs.Unanswered.{is_answered as is_answered_form,
 
 use goal_model::Link;
 
-// Refinements that name no pattern are answered.
+// Refinements that name no pattern, operationalisations and assignments are answered.
 fn is_answered(link: &Link) -> bool
     ensures { result ≡ is_answered_form (link_of link.now) }
 {
     match link {
         Link::Refine { pattern, .. } => pattern.is_none(),
-        _ => false,
+        Link::Operationalise { .. } | Link::Assign { .. } => true,
+        Link::Obstruct { .. } | Link::Conflict { .. } => false,
     }
 }
 

@@ -252,13 +252,12 @@ each by the other | refine A by B; refine B by A; | refused: statement 6: Cycle 
 a subgoal twice | refine A by B, B; | refused: statement 5: DuplicateName B
 an unknown subgoal | refine A by X; | refused: statement 5: UnknownName X
 a goal by itself | refine A by A; | refused: statement 5: Cycle A
-# The first link that is no plain refinement is not answered yet, where all is resolved.
+# The first obstruction, conflict or refinement by a pattern is not answered yet, where all is resolved.
 an obstruction | obstacle O: a; obstruct A by O; | refused: statement 6: NotBuilt
 a conflict | conflict C: A, B boundary a; | refused: statement 5: NotBuilt
-an assignment | agent C controls a; assign A to C; | refused: statement 6: NotBuilt
-an operationalisation | agent C; operation S by C dompre a dompost not a; require R on S pre a; operationalise A by R; | refused: statement 8: NotBuilt
 a pattern | refine A by B using split; | refused: statement 5: NotBuilt
 a pattern of a goal's name | goal split: a; refine A by B using split; | refused: statement 6: NotBuilt
+behind other links | agent C; assign B to C; operation S by C dompre a dompost not a; require R on S pre a; operationalise A by R; conflict C1: A, B boundary a; | refused: statement 10: NotBuilt
 behind a plain refinement | refine A by B; refine A by B using guard; conflict C: A, B boundary a; | refused: statement 6: NotBuilt
 before a plain refinement | conflict C: A, B boundary a; refine A by B; | refused: statement 5: NotBuilt
 before an expectation | agent C; expect A of C; refine A by B using induction; expect B of C; | refused: statement 7: NotBuilt
@@ -293,7 +292,7 @@ an obstructed goal | goal k: [5 always within 100 ]a; obstacle o: a; obstruct k 
 a boundary | conflict K: g, h boundary [5 always within 100 ]a; | refused: statement 6: TooLarge K
 a goal of a conflict | goal k: [5 always within 100 ]a; conflict K: g, k boundary a; | refused: statement 7: TooLarge K
 an operationalised goal | goal k: [5 always within 100 ]a; agent A; operation s by A dompre a dompost b; require r on s pre a; operationalise k by r; | refused: statement 10: TooLarge k
-an assigned goal is in no list | goal k: [5 always within 100 ]a; agent A; assign k to A; | refused: statement 8: NotBuilt
+an assigned goal is in no list | goal k: [5 always within 100 ]a; agent A; assign k to A; obstacle o: a; obstruct g by o; | refused: statement 10: NotBuilt
 # In the order of the statements, whatever links they are.
 a conflict before a refinement | goal k: [5 always within 100 ]a; conflict K: g, k boundary a; refine g by k; | refused: statement 7: TooLarge K
 a refinement before a conflict | goal k: [5 always within 100 ]a; refine g by k; conflict K: g, k boundary a; | refused: statement 7: TooLarge g
@@ -332,7 +331,7 @@ with one formula less | [7 var x#: bool;]goal g0: [4 always within 100 ]x0; goal
 a condition before | [21 var x#: 0..63;]var y: 0..63; agent A; operation s by A dompre [21 x# = y and ]true dompost true; require r on s post true; goal g: true; operationalise g by r; | refused: statement 28: TooLarge g
 a condition behind | [21 var x#: 0..63;]var y: 0..63; agent A; operation s by A dompre true dompost [21 x# = y and ]true; require r on s trig true; goal g: true; operationalise g by r; | refused: statement 28: TooLarge g
 the required formula | [21 var x#: 0..63;]var y: 0..63; agent A; operation s by A dompre true dompost true; require r on s pre [21 x# = y and ]true; goal g: true; operationalise g by r; | refused: statement 28: TooLarge g
-smaller conditions | [20 var x#: 0..63;]var y: 0..63; agent A; operation s by A dompre [20 x# = y and ]true dompost true; require r on s post true; goal g: true; operationalise g by r; | refused: statement 27: NotBuilt";
+smaller conditions | [20 var x#: 0..63;]var y: 0..63; agent A; operation s by A dompre [20 x# = y and ]true dompost true; require r on s post true; goal g: true; operationalise g by r; obstacle o: true; obstruct g by o; | refused: statement 29: NotBuilt";
 
 #[test]
 fn large_lists(rt: HostRuntime) -> Result<(), Fail> {

@@ -21,3 +21,7 @@ with_domain m goals = map (λ p. p.formula) m.domains ++ map (goal_at m) goals
 -- under the domain properties the goal is true at the start of each ultimately periodic trace that meets these others
 abbrev pub Entails : ModelForm → List ℕ → ℕ → Type 0
 Entails m goals parent = (t : Trace) → IsPeriodic (sizes_of m) t → Meets t (with_domain m goals) → Truth t (goal_at m parent) 0
+
+-- some ultimately periodic trace meets the domain properties and these goals
+abbrev pub Coexist : ModelForm → List ℕ → Type 0
+Coexist m goals = (t : Trace) × IsPeriodic (sizes_of m) t × Meets t (with_domain m goals)

@@ -1,6 +1,5 @@
 -- A right verdict tells how its demand stands, and there is only one.
-use Rattle.std.proofs.Common.{◌≡◌, ℕ, List, refl, sym, ap, subst, ◌∙◌, arith}
-use Rattle.temporal_logic.specs.Ltl.{Ltl}
+use Rattle.std.proofs.Common.{◌≡◌, ℕ, Bool, List, refl, sym, ap, subst, ◌∙◌, arith}
 use Rattle.temporal_logic.specs.Lassos.{trace_of}
 use Rattle.temporal_logic.proofs.Fitting.{lasso_is_periodic}
 use Rattle.temporal_logic.specs.declared.lasso.Lasso.{Lasso}
@@ -8,23 +7,27 @@ use Rattle.tableau_rules.specs.declared.answer.Answer.{Answer}
 use Rattle.tableau_rules.specs.declared.answer.Answer.TheVariants.{Empty, Found, Withheld}
 use Rattle.tableau_rules.specs.Graphs.{IsWithin, IsLarger}
 use Rattle.tableau_rules.proofs.Sizes.{size_over}
+use Rattle.goal_model.specs.declared.item.Part.{Part}
 use Rattle.goal_model.specs.declared.item.Wanted.{Wanted}
 use Rattle.goal_model.specs.declared.item.Wanted.TheVariants.{NoTrace, SomeTrace}
 use Rattle.goal_model.specs.Models.{ModelForm, sizes_of}
-use Rattle.goal_model.specs.Demands.{HasTrace}
+use Rattle.goal_model.specs.Conditions.{HasTrace}
+use Rattle.agent_capabilities.specs.declared.cover.Cover.{Cover}
+use Rattle.agent_capabilities.specs.declared.cover.Cover.TheVariants.{Covered, NotMonitored, NotControlled}
+use Rattle.agent_capabilities.specs.Coverage.{cover_of}
 use Rattle.verdict_report.specs.declared.report.Verdict.{Verdict}
 use Rattle.verdict_report.specs.declared.report.Verdict.TheVariants as verdicts
 use Rattle.verdict_report.specs.declared.report.Evidence.{Evidence}
-use Rattle.verdict_report.specs.Verdicts.{query_cores, IsFound, verdict_of, IsRight}
+use Rattle.verdict_report.specs.Verdicts.{demand_cores, IsFound, verdict_of, IsRight, cover_verdict, IsRightCover}
 use Rattle.verdict_report.specs.Laws.{Tells}
 
-module _ (m : ModelForm) (budget : ℕ) (list : List Ltl) where
-  -- a lasso that is found is a trace that meets the list
-  found_trace : (l : Lasso) → IsFound m budget list (Found l) → HasTrace m list
+module _ (m : ModelForm) (budget : ℕ) (parts : List (Part × Bool)) where
+  -- a lasso that is found is a trace that meets the parts
+  found_trace : (l : Lasso) → IsFound m budget parts (Found l) → HasTrace m parts
   found_trace l f = (trace_of l, lasso_is_periodic (sizes_of m) l f.0, f.1)
 
   -- what a verdict tells, by what is found
-  told : (wanted : Wanted) (a : Answer) → IsFound m budget list a → Tells m budget wanted list (verdict_of wanted a)
+  told : (wanted : Wanted) (a : Answer) → IsFound m budget parts a → Tells m budget wanted parts (verdict_of wanted a)
   told NoTrace (Empty cert) (none, size, has, few, valid, short) = (none, (size, has, few))
   told SomeTrace (Empty cert) (none, size, has, few, valid, short) = (none, (size, has, few))
   told NoTrace (Found l) f = ((λ none. none (found_trace l f)), f.2)
@@ -33,11 +36,11 @@ module _ (m : ModelForm) (budget : ℕ) (list : List Ltl) where
   told SomeTrace (Withheld number) f = f
 
   -- no size is both within the budget and over it
-  not_both : IsWithin (sizes_of m) (query_cores m list) budget → IsLarger (sizes_of m) (query_cores m list) budget → ⊥
-  not_both (size, has, few) larger = let over = size_over (sizes_of m) (query_cores m list) size budget has larger in omega (arith, few, over)
+  not_both : IsWithin (sizes_of m) (demand_cores m parts) budget → IsLarger (sizes_of m) (demand_cores m parts) budget → ⊥
+  not_both (size, has, few) larger = let over = size_over (sizes_of m) (demand_cores m parts) size budget has larger in omega (arith, few, over)
 
   -- two things that are found give the same verdict
-  same_verdict : (wanted : Wanted) (a b : Answer) → IsFound m budget list a → IsFound m budget list b → verdict_of wanted a ≡ verdict_of wanted b
+  same_verdict : (wanted : Wanted) (a b : Answer) → IsFound m budget parts a → IsFound m budget parts b → verdict_of wanted a ≡ verdict_of wanted b
   same_verdict NoTrace (Empty cert) (Empty other) f g = refl
   same_verdict SomeTrace (Empty cert) (Empty other) f g = refl
   same_verdict NoTrace (Found l) (Found k) f g = refl
@@ -52,13 +55,29 @@ module _ (m : ModelForm) (budget : ℕ) (list : List Ltl) where
   same_verdict wanted (Withheld n) (Found l) f g = absurd (not_both g.2 f.1)
 
 -- what a right verdict tells
-pub right_tells : (m : ModelForm) (budget : ℕ) (wanted : Wanted) (list : List Ltl) (verdict : Verdict) (evidence : Evidence)
-    → IsRight m budget wanted list verdict evidence → Tells m budget wanted list verdict
-right_tells m budget wanted list verdict evidence right =
-    subst (Tells m budget wanted list) (sym right.verdict) (told m budget list wanted right.answer right.found)
+pub right_tells : (m : ModelForm) (budget : ℕ) (wanted : Wanted) (parts : List (Part × Bool)) (verdict : Verdict) (evidence : Evidence)
+    → IsRight m budget wanted parts verdict evidence → Tells m budget wanted parts verdict
+right_tells m budget wanted parts verdict evidence right =
+    subst (Tells m budget wanted parts) (sym right.verdict) (told m budget parts wanted right.answer right.found)
 
 -- two right verdicts are the same
-pub one_right : (m : ModelForm) (budget : ℕ) (wanted : Wanted) (list : List Ltl) (first second : Verdict) (shown other : Evidence)
-    → IsRight m budget wanted list first shown → IsRight m budget wanted list second other → first ≡ second
-one_right m budget wanted list first second shown other a b =
-    a.verdict ∙ same_verdict m budget list wanted a.answer b.answer a.found b.found ∙ sym b.verdict
+pub one_right : (m : ModelForm) (budget : ℕ) (wanted : Wanted) (parts : List (Part × Bool)) (first second : Verdict) (shown other : Evidence)
+    → IsRight m budget wanted parts first shown → IsRight m budget wanted parts second other → first ≡ second
+one_right m budget wanted parts first second shown other a b =
+    a.verdict ∙ same_verdict m budget parts wanted a.answer b.answer a.found b.found ∙ sym b.verdict
+
+-- what an agent lacks or not gives one verdict
+same_cover : (c d : Cover) → cover_of c ≡ cover_of d → cover_verdict c ≡ cover_verdict d
+same_cover Covered Covered e = refl
+same_cover Covered (NotMonitored y) e = absurd cc
+same_cover Covered (NotControlled y) e = absurd cc
+same_cover (NotMonitored x) Covered e = absurd cc
+same_cover (NotMonitored x) (NotMonitored y) e = refl
+same_cover (NotMonitored x) (NotControlled y) e = refl
+same_cover (NotControlled x) Covered e = absurd cc
+same_cover (NotControlled x) (NotMonitored y) e = refl
+same_cover (NotControlled x) (NotControlled y) e = refl
+
+-- two right verdicts on an assignment are the same
+pub one_cover : (m : ModelForm) (goal agent : ℕ) (first second : Verdict) (shown other : Evidence) → IsRightCover m goal agent first shown → IsRightCover m goal agent second other → first ≡ second
+one_cover m goal agent first second shown other a b = a.verdict ∙ same_cover a.cover b.cover (a.covers ∙ sym b.covers) ∙ sym b.verdict

@@ -1,18 +1,19 @@
 -- The bytes of a report in each form.
-use Rattle.std.specs.Prelude.{ℕ, List, [], ◌∷◌, map, ◌++◌, length, max, codes, decimal}
+use Rattle.std.specs.Prelude.{ℕ, List, [], ◌∷◌, map, ◌++◌, length, max, codes, decimal, slice_index_or}
 use Rattle.std.specs.List.{flat_map}
 use Rattle.state_space.specs.Ranges.{RangeForm, size_of}
 use Rattle.tableau_rules.specs.Certificates.{CertNodeForm}
 use Rattle.tableau_rules.specs.CertView.{cert_of}
 use Rattle.elimination_cert.specs.CertTexts.{indented_cert}
 use Rattle.goal_model.specs.Items.{label_of}
+use Rattle.agent_capabilities.specs.declared.cover.Cover.TheVariants.{NotMonitored, NotControlled}
 use Rattle.goal_model.specs.Labels.{label_text}
 use Rattle.verdict_report.specs.declared.form.Form.{Form}
 use Rattle.verdict_report.specs.declared.form.Form.TheVariants.{Full, Brief}
 use Rattle.verdict_report.specs.declared.report.Verdict.{Verdict}
 use Rattle.verdict_report.specs.declared.report.Verdict.TheVariants.{Holds, Fails, Withheld}
 use Rattle.verdict_report.specs.declared.report.Evidence.{Evidence}
-use Rattle.verdict_report.specs.declared.report.Evidence.TheVariants.{Elimination, Trace}
+use Rattle.verdict_report.specs.declared.report.Evidence.TheVariants.{Elimination, Trace, Offending}
 use Rattle.verdict_report.specs.declared.report.Entry.{Entry}
 use Rattle.verdict_report.specs.declared.report.Report.{Report}
 use Rattle.verdict_report.specs.Reports.{held_count, failed_count, withheld_count}
@@ -23,6 +24,12 @@ abbrev pub verdict_text : Verdict → List ℕ
 verdict_text Holds = codes "holds"
 verdict_text Fails = codes "fails"
 verdict_text (Withheld number) = codes "withheld at " ++ decimal number
+
+-- behind the verdict of an assignment that fails: the variable that the agent lacks
+abbrev pub lacking_text : List (List ℕ) → Evidence → List ℕ
+lacking_text names (Offending (NotMonitored x)) = codes ", " ++ slice_index_or names x.0 [] ++ codes " not monitored"
+lacking_text names (Offending (NotControlled x)) = codes ", " ++ slice_index_or names x.0 [] ++ codes " not controlled"
+lacking_text names evidence = []
 
 -- the highest rank of a certificate's nodes, 0 where it has none
 abbrev pub highest_rank : List CertNodeForm → ℕ
@@ -41,9 +48,9 @@ evidence_text Brief names ranges (Elimination cert) = summary_text (cert_of cert
 evidence_text Brief names ranges (Trace l) = lasso_text names ranges l
 evidence_text form names ranges evidence = []
 
--- a verdict line, and the evidence
+-- a verdict line, and the lines of the evidence
 unfoldable pub entry_text : Form → List (List ℕ) → List RangeForm → Entry → List ℕ
-entry_text form names ranges e = label_text (label_of e.label) ++ codes ": " ++ verdict_text e.verdict ++ codes "\n" ++ evidence_text form names ranges e.evidence
+entry_text form names ranges e = label_text (label_of e.label) ++ codes ": " ++ verdict_text e.verdict ++ lacking_text names e.evidence ++ codes "\n" ++ evidence_text form names ranges e.evidence
 
 -- `total: H hold, F fail, W withheld`, and a line feed
 unfoldable pub total_text : ℕ → ℕ → ℕ → List ℕ

@@ -1,25 +1,49 @@
 -- When a report is right, and what it counts.
-use Rattle.std.specs.Prelude.{◌≡◌, ℕ, Bool, true, false, count_by, Some}
-use Rattle.std.specs.List.{AllZip}
-use Rattle.goal_model.specs.Models.{ModelForm}
-use Rattle.goal_model.specs.Items.{label_of, items_of}
-use Rattle.goal_model.specs.Demands.{DemandForm, demands_of}
+use Rattle.std.specs.Prelude.{◌≡◌, ℕ, ◌+◌, Bool, true, false, List, [], ◌∷◌, ◌++◌, count_by, option_map, Some, None}
+use Rattle.std.specs.Option.{option_to_list}
+use Rattle.std.specs.List.{AllZip, flat_map}
+use Rattle.goal_model.specs.declared.item.Part.{Part}
+use Rattle.goal_model.specs.declared.item.Wanted.{Wanted}
+use Rattle.goal_model.specs.Models.{LinkForm, assign, ModelForm}
+use Rattle.goal_model.specs.Items.{LabelForm, ItemForm, label_of, domain_item, assigned_item, link_items_of}
 use Rattle.verdict_report.specs.declared.report.Verdict.{Verdict}
 use Rattle.verdict_report.specs.declared.report.Verdict.TheVariants.{Holds, Fails, Withheld}
 use Rattle.verdict_report.specs.declared.report.Entry.{Entry}
 use Rattle.verdict_report.specs.declared.report.Report.{Report}
-use Rattle.verdict_report.specs.Verdicts.{IsRight}
+use Rattle.verdict_report.specs.Verdicts.{IsRight, IsRightCover}
 
--- an entry answers a demand, and is right
-pub record IsEntry (m : ModelForm) (budget : ℕ) (demand : DemandForm) (entry : Entry) : Type 0 where
-  pub label : label_of entry.label ≡ demand.label
-  pub wanted : entry.wanted ≡ Some demand.wanted
-  pub right : IsRight m budget demand.wanted demand.list entry.verdict entry.evidence
+-- what an entry answers: a demand on traces, or whether an agent covers a goal
+pub data Question : Type 0 where
+  of_traces : (label : LabelForm) (parts : List (Part × Bool)) (wanted : Wanted) → Question
+  of_agent : (label : LabelForm) (goal agent : ℕ) → Question
 
--- the report answers each demand of the model in order, first that of the domain properties, and all under this budget
+-- the question of an item that asks something of traces
+abbrev pub asked_by : ItemForm → List Question
+asked_by i = option_to_list (option_map (λ w. of_traces i.label i.parts w) i.wanted)
+
+-- the questions of the link at a place
+abbrev pub link_questions : ModelForm → ℕ → LinkForm → List Question
+link_questions m l (assign s g a) = of_agent (assigned_item m s g a).label g a ∷ []
+link_questions m l link = flat_map asked_by (link_items_of m l link)
+
+-- those of links, of which the first has this place
+abbrev pub questions_from : ModelForm → ℕ → List LinkForm → List Question
+questions_from m l [] = []
+questions_from m l (link ∷ links) = link_questions m l link ++ questions_from m (l + 1) links
+
+-- whether the domain properties have a trace, and then the questions of each link in statement order
+abbrev pub questions_of : ModelForm → List Question
+questions_of m = asked_by domain_item ++ questions_from m 0 m.links
+
+-- an entry answers a question, and is right
+abbrev pub IsEntry : ModelForm → ℕ → Question → Entry → Type 0
+IsEntry m budget (of_traces label parts wanted) e = (label_of e.label ≡ label) × (e.wanted ≡ Some wanted) × IsRight m budget wanted parts e.verdict e.evidence
+IsEntry m budget (of_agent label goal agent) e = (label_of e.label ≡ label) × (e.wanted ≡ None) × IsRightCover m goal agent e.verdict e.evidence
+
+-- the report answers each question of the model in order, and all under this budget
 pub record Reports (m : ModelForm) (limit : ℕ) (report : Report) : Type 0 where
   pub budget : report.budget ≡ limit
-  pub entries : AllZip (IsEntry m limit) (demands_of m (items_of m)) report.entries.items
+  pub entries : AllZip (IsEntry m limit) (questions_of m) report.entries.items
 
 abbrev pub is_held : Verdict → Bool
 is_held Holds = true

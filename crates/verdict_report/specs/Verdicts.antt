@@ -1,7 +1,6 @@
--- What is found of a list of formulas, and the verdict that it gives on a demand.
-use Rattle.std.specs.Prelude.{◌≡◌, ℕ, ◌≤◌, List, length}
+-- What is found of the parts that a demand is of, and the verdict that it gives; and the verdict on an assignment.
+use Rattle.std.specs.Prelude.{◌≡◌, ℕ, ◌≤◌, Bool, List, length}
 use Rattle.temporal_logic.specs.Ltl.{Ltl}
-use Rattle.temporal_logic.specs.Truth.{Meets}
 use Rattle.temporal_logic.specs.Lassos.{trace_of, IsOfSpace}
 use Rattle.bound_unfolding.specs.CoreForm.{CoreForm}
 use Rattle.bound_unfolding.specs.CoreLists.{cores_of}
@@ -10,26 +9,35 @@ use Rattle.tableau_rules.specs.declared.answer.Answer.TheVariants.{Empty, Found,
 use Rattle.tableau_rules.specs.Certificates.{IsValid}
 use Rattle.tableau_rules.specs.CertView.{cert_of}
 use Rattle.tableau_rules.specs.Graphs.{HasSize, IsWithin, IsLarger}
+use Rattle.goal_model.specs.declared.item.Part.{Part}
 use Rattle.goal_model.specs.declared.item.Wanted.{Wanted}
 use Rattle.goal_model.specs.declared.item.Wanted.TheVariants.{NoTrace, SomeTrace}
 use Rattle.goal_model.specs.Models.{ModelForm, sizes_of}
-use Rattle.goal_model.specs.Demands.{HasTrace}
+use Rattle.goal_model.specs.Items.{list_of}
+use Rattle.goal_model.specs.Conditions.{MeetsParts, HasTrace}
+use Rattle.agent_capabilities.specs.declared.cover.Cover.{Cover}
+use Rattle.agent_capabilities.specs.declared.cover.Cover.TheVariants.{Covered}
+use Rattle.agent_capabilities.specs.Coverage.{cover_of, coverage_at}
 use Rattle.verdict_report.specs.declared.report.Verdict.{Verdict}
 use Rattle.verdict_report.specs.declared.report.Verdict.TheVariants as verdicts
 use Rattle.verdict_report.specs.declared.report.Evidence.{Evidence}
 use Rattle.verdict_report.specs.declared.report.Evidence.TheVariants as evidences
 
--- the positive cores of a list over the model's variables, which are the query that decides it
+-- the positive cores of a list over the model's variables
 abbrev pub query_cores : ModelForm → List Ltl → List CoreForm
 query_cores m list = cores_of (sizes_of m) list
 
--- what is found of a list under a budget: where its tableau has no more nodes than the budget, a valid certificate with no more nodes than
--- the tableau, and no trace meets the list; or a lasso of the space that meets it. Else nothing but the budget
-abbrev pub IsFound : ModelForm → ℕ → List Ltl → Answer → Type 0
-IsFound m budget list (Empty cert) =
-    (HasTrace m list → ⊥) × (size : ℕ) × HasSize (sizes_of m) (query_cores m list) size × (size ≤ budget) × IsValid (sizes_of m) (query_cores m list) (cert_of cert) × (length (cert_of cert) ≤ size)
-IsFound m budget list (Found lasso) = IsOfSpace (sizes_of m) lasso × Meets (trace_of lasso) list × IsWithin (sizes_of m) (query_cores m list) budget
-IsFound m budget list (Withheld number) = (number ≡ budget) × IsLarger (sizes_of m) (query_cores m list) budget
+-- the query that decides a demand: the cores of the domain properties, and of the formulas of the parts
+abbrev pub demand_cores : ModelForm → List (Part × Bool) → List CoreForm
+demand_cores m parts = query_cores m (list_of m parts)
+
+-- what is found of parts under a budget: where the tableau has no more nodes than the budget, a valid certificate with no more nodes than
+-- the tableau, and no trace meets the parts; or a lasso of the space that meets them. Else nothing but the budget
+abbrev pub IsFound : ModelForm → ℕ → List (Part × Bool) → Answer → Type 0
+IsFound m budget parts (Empty cert) =
+    (HasTrace m parts → ⊥) × (size : ℕ) × HasSize (sizes_of m) (demand_cores m parts) size × (size ≤ budget) × IsValid (sizes_of m) (demand_cores m parts) (cert_of cert) × (length (cert_of cert) ≤ size)
+IsFound m budget parts (Found lasso) = IsOfSpace (sizes_of m) lasso × MeetsParts m (trace_of lasso) parts × IsWithin (sizes_of m) (demand_cores m parts) budget
+IsFound m budget parts (Withheld number) = (number ≡ budget) × IsLarger (sizes_of m) (demand_cores m parts) budget
 
 -- the verdict on a demand of which this is found
 abbrev pub verdict_of : Wanted → Answer → Verdict
@@ -45,9 +53,26 @@ evidence_of (Empty cert) = evidences.Elimination cert
 evidence_of (Found lasso) = evidences.Trace lasso
 evidence_of (Withheld number) = evidences.Nothing
 
--- a verdict and its evidence are right of a list of which this is wanted, under a budget
-pub record IsRight (m : ModelForm) (budget : ℕ) (wanted : Wanted) (list : List Ltl) (said : Verdict) (shown : Evidence) : Type 0 where
+-- a verdict and its evidence are right of the parts of which this is wanted, under a budget
+pub record IsRight (m : ModelForm) (budget : ℕ) (wanted : Wanted) (parts : List (Part × Bool)) (said : Verdict) (shown : Evidence) : Type 0 where
   pub answer : Answer
-  pub found : IsFound m budget list answer
+  pub found : IsFound m budget parts answer
   pub verdict : said ≡ verdict_of wanted answer
   pub evidence : shown ≡ evidence_of answer
+
+-- the verdict on an assignment to an agent that covers the goal so
+abbrev pub cover_verdict : Cover → Verdict
+cover_verdict Covered = verdicts.Holds
+cover_verdict lacking = verdicts.Fails
+
+-- what is shown of it: what the agent lacks
+abbrev pub cover_evidence : Cover → Evidence
+cover_evidence Covered = evidences.Nothing
+cover_evidence lacking = evidences.Offending lacking
+
+-- a verdict and its evidence are right of the assignment of a goal to an agent
+pub record IsRightCover (m : ModelForm) (goal agent : ℕ) (said : Verdict) (shown : Evidence) : Type 0 where
+  pub cover : Cover
+  pub covers : cover_of cover ≡ coverage_at m goal agent
+  pub verdict : said ≡ cover_verdict cover
+  pub evidence : shown ≡ cover_evidence cover

@@ -1,11 +1,12 @@
-//! Reports: an answer to each demand of a model, with its evidence, in the order of the links. When one is right, specs/Verdicts.antt and
-//! specs/Reports.antt say.
+//! Reports: an answer to each demand of a model and to each assignment, with its evidence, in the order of the links. When one is right,
+//! specs/Verdicts.antt and specs/Reports.antt say.
 
+use agent_capabilities::Cover;
 use goal_model::{Label, Wanted};
 use tableau_rules::Cert;
 use temporal_logic::Lasso;
 
-/// The answer to a demand.
+/// The answer to a demand, or to an assignment.
 #[derive(Clone, Copy, Debug, PartialEq, Eq)]
 pub enum Verdict {
     Holds,
@@ -23,19 +24,21 @@ pub enum Evidence {
     Elimination(Cert),
     /// A trace that meets the demand's list.
     Trace(Lasso),
+    /// The variable that the agent of an assignment lacks.
+    Offending(Cover),
 }
 
-/// One demand, its verdict and the evidence.
+/// One demand or assignment, its verdict and the evidence.
 #[derive(Drop)]
 pub struct Entry {
     pub label: Label,
-    /// What the demand asks of traces.
+    /// What the demand asks of traces; an assignment asks nothing of them.
     pub wanted: Option<Wanted>,
     pub verdict: Verdict,
     pub evidence: Evidence,
 }
 
-/// The answers to all demands of a model, in the order of its links.
+/// The answers to all demands and assignments of a model, in the order of its links.
 #[derive(Drop)]
 pub struct Report {
     /// The number of nodes that a demand's tableau may have.

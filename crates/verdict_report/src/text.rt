@@ -1,7 +1,7 @@
 //! The texts of reports in each form, in the order in which a report has its lines. The bytes are those of specs/ReportTexts.antt, which
 //! every reader of a report relies on.
 
-ghost use Rattle.std.specs.Prelude.{◌≡◌, ◌++◌, decimal, All, OnOk, IfOk};
+ghost use Rattle.std.specs.Prelude.{◌≡◌, ◌<◌, ◌++◌, [], codes, decimal, length, slice_index_or, All, OnOk, IfOk};
 ghost use Rattle.std.specs.List.{flat_map};
 ghost use Rattle.state_space.specs.Spaces.{names, ranges, sizes};
 ghost use Rattle.tableau_rules.specs.CertView.{cert_of};
@@ -9,16 +9,17 @@ ghost use Rattle.goal_model.specs.Models.{sizes_of};
 ghost use Rattle.goal_model.specs.ModelViews.{model_of};
 ghost use Rattle.verdict_report.specs.declared.form.Form.TheVariants.{Full, Brief, Lines};
 ghost use Rattle.verdict_report.specs.Fitting.{EvidenceFits};
-ghost use Rattle.verdict_report.specs.ReportTexts.{verdict_text, highest_rank as highest_rank_of, summary_text, evidence_text, entry_text, total_text, report_text as text_of_report};
+ghost use Rattle.verdict_report.specs.ReportTexts.{verdict_text, highest_rank as highest_rank_of, summary_text, evidence_text, lacking_text, entry_text, total_text, report_text as text_of_report};
 
 use crate::form::Form;
 use crate::lasso_text::put_lasso;
 use crate::report::{Entry, Evidence, Report, Verdict};
 use crate::totals::{Totals, counts};
+use agent_capabilities::Cover;
 use elimination_cert::put_cert;
 use goal_model::{Model, label_text};
 use source_sink::{Memory, put, put_decimal};
-use state_space::Space;
+use state_space::{Space, VarId};
 use std::alloc::Global;
 use tableau_rules::Cert;
 
@@ -60,6 +61,30 @@ fn put_evidence(
     }
 }
 
+// The variable that an agent lacks, and how.
+fn put_lack(out: &mut Vec<u8>, space: &Space, x: VarId, how: &[u8]) -> Result<(), Memory>
+    requires { x.0 < length (names space.now) }
+    ensures { OnOk result (out.new.items ≡ out.old.items ++ (codes ", " ++ slice_index_or (names space.now) x.0 [] ++ how.now)) }
+{
+    put(out, b", ")?;
+    put(out, space.name_of(x).bytes())?;
+    put(out, how)
+}
+
+// What the agent of an assignment lacks, if the evidence tells it.
+fn put_lacking(out: &mut Vec<u8>, space: &Space, evidence: &Evidence) -> Result<(), Memory>
+    requires { EvidenceFits (sizes space.now) evidence.now }
+    ensures { OnOk result (out.new.items ≡ out.old.items ++ lacking_text (names space.now) evidence.now) }
+{
+    match evidence {
+        Evidence::Offending(Cover::NotMonitored(x)) => put_lack(out, space, *x, b" not monitored"),
+        Evidence::Offending(Cover::NotControlled(x)) => {
+            put_lack(out, space, *x, b" not controlled")
+        }
+        _ => Ok(()),
+    }
+}
+
 fn put_verdict(out: &mut Vec<u8>, verdict: Verdict) -> Result<(), Memory>
     ensures { OnOk result (out.new.items ≡ out.old.items ++ verdict_text verdict) }
 {
@@ -87,6 +112,7 @@ fn put_entry(
     put(out, &label_text(alloc, &entry.label)?)?;
     put(out, b": ")?;
     put_verdict(out, entry.verdict)?;
+    put_lacking(out, space, &entry.evidence)?;
     put(out, b"\n")?;
     put_evidence(out, form, space, &entry.evidence)
 }

@@ -1,9 +1,10 @@
-//! From what was found of a demand to its verdict and evidence.
+//! From what was found of a demand or of an assignment to its verdict and evidence.
 
-ghost use Rattle.std.specs.Prelude.{◌≡◌, Some};
-ghost use Rattle.verdict_report.specs.Verdicts.{verdict_of as verdict_form, evidence_of as evidence_form};
+ghost use Rattle.std.specs.Prelude.{◌≡◌, Some, None};
+ghost use Rattle.verdict_report.specs.Verdicts.{verdict_of as verdict_form, evidence_of as evidence_form, cover_verdict as cover_verdict_form, cover_evidence as cover_evidence_form};
 
 use crate::report::{Entry, Evidence, Verdict};
+use agent_capabilities::Cover;
 use goal_model::{Label, Wanted};
 use tableau_rules::Answer;
 
@@ -45,5 +46,40 @@ pub fn entry(label: Label, wanted: Wanted, answer: Answer) -> Entry
         wanted: Some(wanted),
         verdict: verdict_of(wanted, &answer),
         evidence: evidence_of(answer),
+    }
+}
+
+// The verdict on an assignment to an agent that covers the goal so.
+fn cover_verdict(cover: Cover) -> Verdict
+    ensures { result ≡ cover_verdict_form cover }
+{
+    match cover {
+        Cover::Covered => Verdict::Holds,
+        _ => Verdict::Fails,
+    }
+}
+
+// What is shown of it.
+fn cover_evidence(cover: Cover) -> Evidence
+    ensures { result ≡ cover_evidence_form cover }
+{
+    match cover {
+        Cover::Covered => Evidence::Nothing,
+        _ => Evidence::Offending(cover),
+    }
+}
+
+/// The entry of an assignment to an agent that covers the goal so.
+pub fn assignment_entry(label: Label, cover: Cover) -> Entry
+    ensures label { result.label ≡ label }
+    ensures wanted { result.wanted ≡ None }
+    ensures verdict { result.verdict ≡ cover_verdict_form cover }
+    ensures evidence { result.evidence ≡ cover_evidence_form cover }
+{
+    Entry {
+        label,
+        wanted: None,
+        verdict: cover_verdict(cover),
+        evidence: cover_evidence(cover),
     }
 }

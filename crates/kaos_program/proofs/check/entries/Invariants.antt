@@ -1,6 +1,12 @@
-use Rattle.std.specs.List.{AllZip}
-use Rattle.kaos_program.proofs.MadeEntries.{IsEntryOf}
+use Rattle.std.proofs.Common.{◌≡◌, ◌++◌, length}
+use Rattle.std.specs.Vec.Iter.{into_iter_items, into_iter_len}
+use Rattle.kaos_program.specs.Asking.{demands_in, entries_of}
 use Rattle.kaos_program.proofs.check.entries.Given as goal
 
-abbrev pub invariant-demands : goal.invariant-demands
-invariant-demands l = AllZip (λ p e. IsEntryOf p.0 p.1 e) l.yielded l.entries.items
+abbrev pub invariant-asked : goal.invariant-asked
+invariant-asked l = record {
+  entries : l.entries.items ++ entries_of (into_iter_items l.one-iterator) (into_iter_items l.answers) ≡ entries_of l.fn.asked.items l.fn.answers.items;
+  answered : length (demands_in (into_iter_items l.one-iterator)) ≡ length (into_iter_items l.answers);
+  asked_left : into_iter_len l.one-iterator ≡ length (into_iter_items l.one-iterator);
+  answers_left : into_iter_len l.answers ≡ length (into_iter_items l.answers);
+}

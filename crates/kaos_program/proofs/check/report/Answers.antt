@@ -1,17 +1,35 @@
-use Rattle.std.proofs.Common.{List, map, refl, subst}
+use Rattle.std.proofs.Common.{List, refl, subst, sym}
 use Rattle.std.specs.List.{AllZip}
-use Rattle.temporal_logic.specs.Trees.{tree_of}
-use Rattle.goal_model.specs.declared.demand.Demand.{Demand}
+use Rattle.tableau_rules.specs.Answers.{IsValidAnswer}
+use Rattle.goal_model.specs.Models.{sizes_of}
 use Rattle.goal_model.specs.ModelViews.{model_of}
-use Rattle.goal_model.specs.Demands.{DemandForm}
-use Rattle.verdict_report.specs.Verdicts.{IsFound}
-use Rattle.verdict_report.specs.Reports.{IsEntry}
+use Rattle.verdict_report.specs.declared.report.Entry.{Entry}
+use Rattle.verdict_report.specs.Reports.{questions_of, IsEntry}
+use Rattle.kaos_program.specs.declared.asking.Asked.{Asked}
+use Rattle.kaos_program.specs.Asking.{demands_in, query_asked}
+use Rattle.kaos_program.proofs.AskedDemands.{all_answerable, as_many}
+use Rattle.kaos_program.proofs.AskedEntries.{entries_right}
 use Rattle.kaos_program.proofs.check.report.Goals as goal
+
+pub found-requires : goal.found-requires
+found-requires g c =
+    let m = model_of c.args.model.now in
+    record { answerable = rw c.deref.ensures.value (all_answerable m (questions_of m) c.in_ok-asked.asked.items c.in_ok-asked.ensures) }
+
+pub entries-requires : goal.entries-requires
+entries-requires g c =
+    let m = model_of c.args.model.now in
+    let asked = c.in_ok-asked.asked.items in
+    let vs = c.in_ok-answers.answers.items in
+    let found = subst (λ (list : List Asked). AllZip (λ d a. IsValidAnswer (sizes_of m) (query_asked m d) c.args.budget a) (demands_in list) vs) c.deref.ensures.value c.in_ok-answers.ensures.found in
+    record { answered = as_many (λ d a. IsValidAnswer (sizes_of m) (query_asked m d) c.args.budget a) (demands_in asked) vs found }
 
 pub returns : goal.returns
 returns g c =
     let m = model_of c.args.model.now in
+    let asked = c.in_ok-asked.asked.items in
     let vs = c.in_ok-answers.answers.items in
-    let found = subst (λ (ds : List Demand). AllZip (λ d a. IsFound m c.args.budget (map tree_of d.list.items) a) ds vs) c.deref.ensures.value c.in_ok-answers.ensures.found in
-    let entries = subst (λ (ds : List DemandForm). AllZip (IsEntry m c.args.budget) ds c.in_ok-entries.entries.items) c.in_ok-demands.ensures.demands (c.in_ok-entries.ensures.entries m c.args.budget found) in
+    let found = subst (λ (list : List Asked). AllZip (λ d a. IsValidAnswer (sizes_of m) (query_asked m d) c.args.budget a) (demands_in list) vs) c.deref.ensures.value c.in_ok-answers.ensures.found in
+    let entries = subst (λ (es : List Entry). AllZip (IsEntry m c.args.budget) (questions_of m) es) (sym c.in_ok-entries.ensures.entries)
+    (entries_right m c.args.model.now.well_formed.parts.ranges c.args.budget (questions_of m) asked vs c.in_ok-asked.ensures found) in
     record { right = record { budget = refl; entries = entries } }

@@ -1,4 +1,4 @@
-use Rattle.std.proofs.Common.{length, arith}
+use Rattle.std.proofs.Common.{arith}
 use Rattle.std.proofs.lemmas.List.{length-map}
 use Rattle.model_text.specs.declared.statement.Statement.{Statement}
 use Rattle.model_text.specs.Statements.{statement_of, statements_of}

@@ -1,0 +1,4 @@
+pub mod Occurring
+pub mod Covering
+pub mod Variables
+pub mod Searching

@@ -1,0 +1,4 @@
+pub mod EachOf
+pub mod PartTruth
+pub mod Excluded
+pub mod OperationLaws
