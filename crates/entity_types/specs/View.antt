@@ -30,7 +30,7 @@ atom_of (atoms.Same x c y) = relates (term_of x) (relation_of c) (term_of y)
 abbrev pub written_tree : Written → WrittenTree
 written_tree (formulas.Atom a) = atom (atom_of a)
 written_tree (formulas.Opened' o p a) = opening o (written_tree a)
-written_tree (formulas.Joined' j p a q b) = joining j (written_tree a) (written_tree b)
+written_tree (formulas.Joined' j p a b) = joining j (written_tree a) (written_tree b)
 written_tree (formulas.All' entity p a) = all entity (written_tree a)
 written_tree (formulas.Exists' entity p a) = exists entity (written_tree a)
 

@@ -161,9 +161,9 @@ fn ground_under(
             let operand = ground_under(alloc, entities, choice, a)?;
             opened(alloc, *opening, operand)
         }
-        Written::Joined(joining, a, b) => {
-            let first = ground_under(alloc, entities, choice, a)?;
-            let second = ground_under(alloc, entities, choice, b)?;
+        Written::Joined(joining, operands) => {
+            let first = ground_under(alloc, entities, choice, &operands.0)?;
+            let second = ground_under(alloc, entities, choice, &operands.1)?;
             joined(alloc, *joining, first, second)
         }
         Written::All(entity, a) => ground_each(alloc, entities, choice, Joining::And, *entity, a),

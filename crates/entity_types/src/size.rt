@@ -33,8 +33,10 @@ fn size_under(entities: &Entities, f: &Written) -> u64
     match f {
         Written::Atom(_) => 1,
         Written::Opened(_, a) => (size_under(entities, a) + 1).min(MOST),
-        Written::Joined(_, a, b) => {
-            (size_under(entities, a) + size_under(entities, b) + 1).min(MOST)
+        Written::Joined(_, operands) => {
+            let first = size_under(entities, &operands.0);
+            let second = size_under(entities, &operands.1);
+            (first + second + 1).min(MOST)
         }
         Written::All(entity, a) => {
             grouped_size(entities.member_count(*entity), size_under(entities, a))

@@ -67,7 +67,7 @@ pub enum Written {
     /// An operator and its operand.
     Opened(Opening, Box<Written>),
     /// An operator and its two operands.
-    Joined(Joining, Box<Written>, Box<Written>),
+    Joined(Joining, Box<(Written, Written)>),
     /// The formula is true for each member of the entity type.
     All(u16, Box<Written>),
     /// The formula is true for some member of the entity type.

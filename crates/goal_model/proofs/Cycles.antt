@@ -2,10 +2,10 @@
 use Rattle.std.proofs.Common.{◌≡◌, ◌≢◌, ℕ, zero, suc, ◌<◌, ◌≤◌, ◌⊎◌, Bool, true, false, cond, List, [], ◌∷◌, length, refl, sym, ap, subst, ◌∙◌, inl, inr, ⊎_elim, arith, Contains}
 use Rattle.std.specs.Prelude.{not, ◌||◌, filter, flat_map, eqb}
 use Rattle.std.specs.List.{list_any}
-use Rattle.std.proofs.lemmas.Bool.{false≢true, or_cases, or_left, or_right, cases_eq, eqb-true, eq-eqb}
+use Rattle.std.proofs.lemmas.Bool.{false≢true, false_from_ne_true, or_cases, or_left, or_right, cases_eq, eqb-true, eq-eqb}
 use Rattle.std.proofs.lemmas.List.Elements.{Contains-append_cases, Contains-append_left, Contains-append_right, Contains-push}
 use Rattle.goal_model.specs.Models.{LinkForm, refine, obstruct, conflict, operationalise, assign}
-use Rattle.goal_model.specs.Reachability.{subgoals_by, IsSubgoal, Reaches, in_one, in_more, IsCyclic, refines, without, is_reached, closes_cycle}
+use Rattle.goal_model.specs.Reachability.{subgoals_by, IsSubgoal, Reaches, in_one, in_more, IsCyclic, has_subgoal, refines_any, is_subgoal, are_refined, refines, without, is_reached, closes_cycle}
 
 none_in : {X : Type 0} (x : X) → Contains [] x → ⊥
 none_in x has = omega (arith, has.1)
@@ -175,3 +175,54 @@ cycle_tested links parent subgoals e = tested (length links) links parent subgoa
 
 pub cycle_test : (links : List LinkForm) (parent : ℕ) (subgoals : List ℕ) → IsCyclic links parent subgoals → closes_cycle links parent subgoals ≡ true
 cycle_test links parent subgoals c = test (length links) links parent subgoals (omega arith) c
+
+-- ---- where no search is needed
+
+pub among_is_cycle : (links : List LinkForm) (parent : ℕ) (subgoals : List ℕ) → list_any (λ g. eqb g parent) subgoals ≡ true → closes_cycle links parent subgoals ≡ true
+among_is_cycle links parent subgoals e =
+    let s = any_of (λ g. eqb g parent) subgoals e in
+    cycle_test links parent subgoals (s.0, s.1, inl (eqb-true s.0 parent s.2))
+
+has_given : (a g : ℕ) (l : LinkForm) → Contains (subgoals_by a l) g → has_subgoal g l ≡ true
+has_given a g (refine s p xs k) has = by (eqb p a) has
+  where
+    by : (b : Bool) → Contains (cond b xs []) g → list_any (λ x. eqb x g) xs ≡ true
+    by true h = of_any (λ x. eqb x g) xs g h (eq-eqb g g refl)
+    by false h = absurd (none_in g h)
+has_given a g (obstruct s p xs) has = absurd (none_in g has)
+has_given a g (conflict s x xs f) has = absurd (none_in g has)
+has_given a g (operationalise s p xs k) has = absurd (none_in g has)
+has_given a g (assign s p k) has = absurd (none_in g has)
+
+reached_is_subgoal : (links : List LinkForm) (a b : ℕ) → Reaches links a b → is_subgoal links b ≡ true
+reached_is_subgoal links a b (in_one _ _ s) = of_any (has_subgoal b) links s.0 s.1 (has_given a b s.0 s.2)
+reached_is_subgoal links a b (in_more _ n _ s r) = reached_is_subgoal links n b r
+
+refines_given : (a : ℕ) (goals : List ℕ) (l : LinkForm) → Contains goals a → refines a l ≡ true → refines_any goals l ≡ true
+refines_given a goals (refine s p xs k) has e = of_any (λ g. eqb g p) goals a has (eq-eqb a p (sym (eqb-true p a e)))
+refines_given a goals (obstruct s p xs) has e = absurd (false≢true e)
+refines_given a goals (conflict s x xs f) has e = absurd (false≢true e)
+refines_given a goals (operationalise s p xs k) has e = absurd (false≢true e)
+refines_given a goals (assign s p k) has e = absurd (false≢true e)
+
+left_is_refined : (links : List LinkForm) (goals : List ℕ) (a b : ℕ) → Contains goals a → Reaches links a b → are_refined links goals ≡ true
+left_is_refined links goals a b has r = by r
+  where
+    first : (g : ℕ) → IsSubgoal links a g → are_refined links goals ≡ true
+    first g s = of_any (refines_any goals) links s.0 s.1 (refines_given a goals s.0 has (given_by a g s.0 s.2))
+
+    by : Reaches links a b → are_refined links goals ≡ true
+    by (in_one _ _ s) = first b s
+    by (in_more _ n _ s r) = first n s
+
+none_closed : (links : List LinkForm) (parent : ℕ) (subgoals : List ℕ) → list_any (λ g. eqb g parent) subgoals ≡ false → ((g : ℕ) → Contains subgoals g → Reaches links g parent → ⊥) → closes_cycle links parent subgoals ≡ false
+none_closed links parent subgoals among none = false_from_ne_true (closes_cycle links parent subgoals) (λ e. by (cycle_tested links parent subgoals e))
+  where
+    by : IsCyclic links parent subgoals → ⊥
+    by c = ⊎_elim (λ is. false≢true (sym among ∙ of_any (λ g. eqb g parent) subgoals c.0 c.1 (eq-eqb c.0 parent is))) (λ r. none c.0 c.1 r) c.2
+
+pub no_subgoal : (links : List LinkForm) (parent : ℕ) (subgoals : List ℕ) → list_any (λ g. eqb g parent) subgoals ≡ false → is_subgoal links parent ≡ false → closes_cycle links parent subgoals ≡ false
+no_subgoal links parent subgoals among never = none_closed links parent subgoals among (λ g has r. false≢true (sym never ∙ reached_is_subgoal links g parent r))
+
+pub not_refined : (links : List LinkForm) (parent : ℕ) (subgoals : List ℕ) → list_any (λ g. eqb g parent) subgoals ≡ false → are_refined links subgoals ≡ false → closes_cycle links parent subgoals ≡ false
+not_refined links parent subgoals among never = none_closed links parent subgoals among (λ g has r. false≢true (sym never ∙ left_is_refined links subgoals g parent has r))

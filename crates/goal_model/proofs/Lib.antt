@@ -1,6 +1,7 @@
 pub mod SameRanges
 pub mod WrittenParts
 pub mod Cycles
+pub mod LastFirst
 pub mod Walking
 pub mod Found
 pub mod Scoped

@@ -23,6 +23,24 @@ IsCyclic links parent subgoals = (g : ℕ) × Contains subgoals g × ((g ≡ par
 
 -- ---- the same as a test
 
+-- whether a link has a goal among its subgoals
+abbrev pub has_subgoal : ℕ → LinkForm → Bool
+has_subgoal goal (refine statement parent subgoals pattern) = list_any (λ g. g == goal) subgoals
+has_subgoal goal link = false
+
+-- whether a link refines one of these goals
+abbrev pub refines_any : List ℕ → LinkForm → Bool
+refines_any goals (refine statement parent subgoals pattern) = list_any (λ g. g == parent) goals
+refines_any goals link = false
+
+-- whether some link has a goal among its subgoals
+abbrev pub is_subgoal : List LinkForm → ℕ → Bool
+is_subgoal links goal = list_any (has_subgoal goal) links
+
+-- whether some link refines one of these goals
+abbrev pub are_refined : List LinkForm → List ℕ → Bool
+are_refined links goals = list_any (refines_any goals) links
+
 -- whether a link refines a goal
 abbrev pub refines : ℕ → LinkForm → Bool
 refines goal (refine statement parent subgoals pattern) = parent == goal

@@ -156,7 +156,7 @@ fn joined(
 {
     let first = written(alloc, scope, first)?;
     let second = written(alloc, scope, second)?;
-    Ok(Written::Joined(joining, Box::new(alloc, first)?, Box::new(alloc, second)?))
+    Ok(Written::Joined(joining, Box::new(alloc, (first, second))?))
 }
 
 // The entity type of a quantifier, and what stands behind it.

@@ -120,7 +120,7 @@ pub(crate) fn refinement_items(
     requires subgoals { All (λ g. g < length (contents_of contents.now).goals) subgoals.now }
     ensures { IfOk result (λ is. map item_of is.items ≡ items.refinement_items (contents_of contents.now) statement goal subgoals.now) }
 {
-    let mut items = Vec::new(alloc);
+    let mut items = Vec::with_capacity(alloc, subgoals.len() + 2)?;
     items.push(complete_item(alloc, contents, statement, goal, subgoals)?)?;
     items.push(consistent_item(alloc, contents, statement, goal, subgoals)?)?;
     push_minimal(alloc, &mut items, contents, statement, goal, subgoals)?;

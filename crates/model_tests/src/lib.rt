@@ -12,6 +12,8 @@ mod faults;
 #[cfg(test)]
 mod models;
 #[cfg(test)]
+mod obstructions;
+#[cfg(test)]
 mod operations;
 #[cfg(test)]
 mod operators;

@@ -11,7 +11,8 @@ use Rattle.goal_model.specs.Items.{all_as, complete_item, consistent_item, minim
 use Rattle.operationalisation.proofs.EachOf.{append_iff, map_iff}
 use Rattle.operationalisation.proofs.PartTruth.{places_met}
 use Rattle.operationalisation.proofs.Excluded.{excluded}
-use Rattle.refinement_graph.specs.Refinements.{goal_at, with_domain, Entails, Coexist}
+use Rattle.operationalisation.specs.Operationalisations.{goal_at}
+use Rattle.refinement_graph.specs.Refinements.{with_domain, Entails, Coexist}
 
 module _ (m : ModelForm) where
   -- a trace meets goals as parts of an item exactly where it meets their formulas, behind the domain properties

@@ -1,18 +1,14 @@
 -- What a refinement says of its goals.
-use Rattle.std.specs.Prelude.{ℕ, Bool, true, false, List, ◌++◌, map, slice_index_or}
+use Rattle.std.specs.Prelude.{ℕ, Bool, true, false, List, ◌++◌, map}
 use Rattle.temporal_logic.specs.Ltl.{Ltl}
 use Rattle.temporal_logic.specs.Truth.{Trace, Truth, Meets}
 use Rattle.temporal_logic.specs.Traces.{IsPeriodic}
 use Rattle.goal_model.specs.Models.{LinkForm, refine, ModelForm, sizes_of}
-use Rattle.goal_model.specs.Items.{no_goal}
+use Rattle.operationalisation.specs.Operationalisations.{goal_at}
 
 abbrev pub is_refinement : LinkForm → Bool
 is_refinement (refine statement parent subgoals pattern) = true
 is_refinement link = false
-
--- the formula of the goal at a place
-abbrev pub goal_at : ModelForm → ℕ → Ltl
-goal_at m g = (slice_index_or m.goals g no_goal).formula
 
 -- the domain properties and these goals
 abbrev pub with_domain : ModelForm → List ℕ → List Ltl

@@ -196,8 +196,7 @@ fn joined(alloc: Global, a: Written, b: Written) -> Result<Written, Fail>
     requires second { (rows : Rows) (types : List ℕ) → length rows.counts ≡ 2 → Fits rows types (written_tree b) }
     ensures fits { IfOk result (λ f. (rows : Rows) (types : List ℕ) → length rows.counts ≡ 2 → Fits rows types (written_tree f)) }
 {
-    let a = Box::new(alloc, a)?;
-    Ok(Written::Joined(Joining::And, a, Box::new(alloc, b)?))
+    Ok(Written::Joined(Joining::And, Box::new(alloc, (a, b))?))
 }
 
 // The formula with which a text begins, and what stands behind it.

@@ -3,8 +3,9 @@ use Rattle.std.proofs.lemmas.Bool.{false≢true, false_from_ne_true}
 use Rattle.goal_model.specs.Models.{LinkForm}
 use Rattle.goal_model.specs.Reachability.{IsCyclic, closes_cycle}
 use Rattle.goal_model.specs.Marking.{IsMarked}
-use Rattle.goal_model.proofs.Cycles.{cycle_tested, cycle_test}
+use Rattle.goal_model.proofs.Cycles.{cycle_tested, cycle_test, among_is_cycle, no_subgoal, not_refined}
 use Rattle.goal_model.proofs.reachability.closes_cycle.Goals as goal
+use Rattle.goal_model.proofs.reachability.closes_cycle.Goals.{then-not-is_subgoal-via-then-not-is_subgoal, then-not-is_subgoal-via-else-not-is_subgoal+then-not-are_refined}
 
 same : (marks : List Bool) (k : ℕ) (d : Bool) → k < length marks → get_or marks k d ≡ get_or marks k false
 same [] k d l = absurd (omega (arith, l))
@@ -17,3 +18,14 @@ tested links parent subgoals marks false l is h = sym (false_from_ne_true (close
 
 pub returns : goal.returns
 returns c = record { cyclic = tested _ c.args.parent c.args.subgoals.now c.in_ok-marks.marks.items c.index.result.now (omega (arith, c.requires.parent, c.in_ok-marks.ensures.size)) c.index.ensures (c.in_ok-marks.ensures.marked c.args.parent) }
+
+pub returns-then-contains : goal.returns-then-contains
+returns-then-contains c = record { cyclic = sym (among_is_cycle _ c.args.parent c.args.subgoals.now (sym c.contains.ensures.value ∙ c.if-contains.true)) }
+
+pub returns-then-not-is_subgoal : goal.returns-then-not-is_subgoal
+returns-then-not-is_subgoal c =
+    let among = sym c.contains.ensures.value ∙ c.if-contains.false in
+    elim c.then-not-is_subgoal.branch [
+      | then-not-is_subgoal-via-then-not-is_subgoal w ↦ record { cyclic = sym (no_subgoal _ c.args.parent c.args.subgoals.now among (sym c.is_subgoal.ensures ∙ w.if-not-is_subgoal.true)) }
+      | then-not-is_subgoal-via-else-not-is_subgoal+then-not-are_refined w ↦ record { cyclic = sym (not_refined _ c.args.parent c.args.subgoals.now among (sym w.are_refined.ensures ∙ w.if-not-are_refined.true)) }
+    ]
