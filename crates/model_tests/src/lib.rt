@@ -22,6 +22,8 @@ mod parts;
 #[cfg(test)]
 mod refusals;
 #[cfg(test)]
+mod regression;
+#[cfg(test)]
 mod reports;
 #[cfg(test)]
 mod resolution;

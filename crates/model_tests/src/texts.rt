@@ -1,4 +1,4 @@
-//! Texts as the tables of tests have them. `[40 n]` stands for 40 times `n`, and `[3 x#, ]` for `x0, x1, x2, `: the sign `#` is the
+//! Texts as the tables of tests have them. `[40 n]` stands for 40 times `n`, and `[3 x#, ]` for `x0, x1, x2, `: each sign `#` is the
 //! number of the piece, from 0. A `~` stands for the byte 255, which no token has.
 
 ghost use Rattle.std.specs.Prelude.{IfOk};
@@ -44,10 +44,15 @@ fn put_numbered(
     piece: &str,
     number: usize,
 ) -> Result<(), AllocError> {
-    match piece.split_once("#") {
-        None => text.push_str(piece),
-        Some((front, rest)) => text.push_str(&format!(in alloc; "{front}{number}{rest}")?),
+    let mut is_first = true;
+    for part in piece.split("#") {
+        if !is_first {
+            text.push_str(&format!(in alloc; "{number}")?)?;
+        }
+        text.push_str(part)?;
+        is_first = false;
     }
+    Ok(())
 }
 
 // A count, a blank and a piece: the piece that many times.

@@ -1,0 +1,16 @@
+pub mod Halves
+pub mod Exchanges
+pub mod Inside
+pub mod Sizes
+pub mod Rules
+pub mod Goals
+pub mod Whole
+pub mod FirstLarge
+pub mod Settled
+pub mod Walked
+pub mod Monotone
+pub mod Deriving
+pub mod Obstructing
+pub mod Keeping
+pub mod GoalObstacles
+pub mod ObstructionLaws

@@ -1,0 +1,10 @@
+pub mod Fingerprints
+pub mod Replacements
+pub mod Extents
+pub mod Candidates
+pub mod Derivations
+pub mod Parts
+pub mod Regressions
+pub mod Sides
+pub mod Views
+pub mod Obstructions

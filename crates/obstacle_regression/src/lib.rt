@@ -1,0 +1,17 @@
+//! Obstacles: the demands of an obstruction, and candidates for obstacles of a goal, found by regression over the rules of a model (van
+//! Lamsweerde and Letier 2000). For whoever answers obstructions or looks for what can hinder a goal.
+#![tactic(auto)]
+
+mod candidate;
+mod demand;
+mod extent;
+mod fingerprint;
+mod law;
+mod regression;
+mod replacement;
+mod rule;
+mod search;
+
+pub use demand::obstacle_demands;
+pub use law::{law_of_obstructions, law_of_regression, law_of_replacement};
+pub use regression::{Regressed, regress, regress_through};
