@@ -1,6 +1,7 @@
 -- From what the parts answer to what is answered to the bytes.
-use Rattle.std.proofs.Common.{◌≡◌, ℕ, ◌≤◌, ◌⊎◌, Bool, List, length, Some, None, ⊎_elim}
+use Rattle.std.proofs.Common.{◌≡◌, ℕ, ◌≤◌, ◌⊎◌, Bool, List, length, Some, None, ⊎_elim, sym, subst}
 use Rattle.std.specs.Prelude.{Option}
+use Rattle.std.specs.List.{AllZip}
 use Rattle.model_text.specs.declared.text.TextRefusal.{TextRefusal}
 use Rattle.model_text.specs.declared.text.TextRefusal.TheVariants as texts
 use Rattle.model_text.specs.Statements.{StatementForm}
@@ -9,16 +10,20 @@ use Rattle.goal_model.specs.declared.refusal.RefusalKind.{RefusalKind}
 use Rattle.goal_model.specs.Models.{ModelForm}
 use Rattle.goal_model.specs.Resolution.{made, refuses, outcome_of}
 use Rattle.verdict_report.specs.declared.report.Report.{Report}
-use Rattle.kaos_program.specs.declared.command.Command.{Command}
-use Rattle.kaos_program.specs.declared.command.Command.TheVariants.{Trace}
+use Rattle.obstacle_regression.specs.declared.standing.Standing.{Standing}
+use Rattle.obstacle_regression.specs.Candidates.{FoundForm}
+use Rattle.obstacle_regression.specs.Regressions.{goal_regression}
+use Rattle.obstacle_regression.specs.Standings.{StandsSo}
 use Rattle.kaos_program.specs.declared.status.Status.{Status}
 use Rattle.kaos_program.specs.declared.status.Status.TheVariants as statuses
 use Rattle.kaos_program.specs.Statuses.{status_of_truths}
+use Rattle.kaos_program.specs.Commands.{CommandForm, regress, trace}
 use Rattle.kaos_program.specs.Unanswered.{first_unanswered}
 use Rattle.kaos_program.specs.Truths.{AreTruths}
-use Rattle.kaos_program.specs.RefusalTexts.{text_refusal, model_refusal, not_built}
+use Rattle.kaos_program.specs.Regressing.{goal_named, status_of_standings, regression_text}
+use Rattle.kaos_program.specs.RefusalTexts.{text_refusal, model_refusal, not_built, no_goal}
 use Rattle.kaos_program.specs.TruthTexts.{truths_text}
-use Rattle.kaos_program.specs.Answering.{IsAccepted, IsRefused, a_text, its_statements, a_link, Answers, a_refusal, truths}
+use Rattle.kaos_program.specs.Answering.{IsAccepted, IsRefused, a_text, its_statements, a_link, Answers, a_refusal, no_such_goal, candidates, truths}
 
 -- a cause that is not want of memory
 pub text_cause : (bytes : List ℕ) (e : TextRefusal) → (e ≡ texts.Memory) ⊎ Refuses bytes e → (e ≡ texts.Memory → ⊥) → Refuses bytes e
@@ -36,9 +41,20 @@ pub link_line : (bytes : List ℕ) (ss : List StatementForm) (m : ModelForm) (st
 link_line bytes ss m statement line size read makes first is = rw is (a_link ss m statement size read makes first)
 
 pub traced : (bytes : List ℕ) (ss : List StatementForm) (m : ModelForm) (rows : List (List Bool)) (status : Status) (out : List ℕ) → IsAccepted bytes ss m → AreTruths m rows → status ≡ status_of_truths rows → out ≡ truths_text m rows
-    → Answers bytes Trace status None out
+    → Answers bytes trace status None out
 traced bytes ss m rows status out a right s o = rw (s, o) (truths ss m rows a right)
 
-pub refused_line : (command : Command) (bytes line : List ℕ) (status : Status) (report : Option Report) (out : List ℕ) → IsRefused bytes line → status ≡ statuses.Refused → report ≡ None → out ≡ line
+pub refused_line : (command : CommandForm) (bytes line : List ℕ) (status : Status) (report : Option Report) (out : List ℕ) → IsRefused bytes line → status ≡ statuses.Refused → report ≡ None → out ≡ line
     → Answers bytes command status report out
 refused_line command bytes line status report out refused s r o = rw (s, r, o) (a_refusal command line refused)
+
+pub unnamed : (bytes : List ℕ) (ss : List StatementForm) (m : ModelForm) (name : List ℕ) (depth budget : ℕ) (status : Status) (report : Option Report) (out : List ℕ) → IsAccepted bytes ss m → None ≡ goal_named m name
+    → status ≡ statuses.Refused → report ≡ None → out ≡ no_goal name → Answers bytes (regress name depth budget) status report out
+unnamed bytes ss m name depth budget status report out a none s r o = rw (s, r, o) (no_such_goal ss m name depth budget a (sym none))
+
+pub told_candidates : (bytes : List ℕ) (ss : List StatementForm) (m : ModelForm) (name : List ℕ) (goal depth budget : ℕ) (found : FoundForm) (standings : List Standing) (status : Status) (out : List ℕ) → IsAccepted bytes ss m
+    → Some goal ≡ goal_named m name → found ≡ goal_regression m goal depth → AllZip (StandsSo m budget) found.list standings → status ≡ status_of_standings standings → out ≡ regression_text budget m found standings
+    → Answers bytes (regress name depth budget) status None out
+told_candidates bytes ss m name goal depth budget found standings status out a named is stand s o =
+    rw (s, o) (subst (λ (f : FoundForm). Answers bytes (regress name depth budget) (status_of_standings standings) None (regression_text budget m f standings)) (sym is)
+    (candidates ss m name goal depth budget standings a (sym named) (subst (λ (f : FoundForm). AllZip (StandsSo m budget) f.list standings) is stand)))

@@ -1,6 +1,7 @@
 pub mod ModelParts
 pub mod CutWords
 pub mod DistinctOptions
+pub mod TakenOptions
 pub mod ExactWords
 pub mod FoundValues
 pub mod ReadOptions
@@ -16,4 +17,7 @@ pub mod Achieved
 pub mod TruthRows
 pub mod Answering
 pub mod RunParts
+pub mod GoalPlaces
+pub mod CandidateLines
+pub mod OneStanding
 pub mod OneAnswer

@@ -1,5 +1,5 @@
 -- Two right answers to the same bytes under the same command have the same status, and the same verdicts under the same labels.
-use Rattle.std.proofs.Common.{◌≡◌, ◌↔◌, ℕ, ◌+◌, Bool, true, false, List, [], ◌∷◌, map, Some, refl, sym, ap, ◌∙◌, subst, arith}
+use Rattle.std.proofs.Common.{◌≡◌, ◌↔◌, ℕ, ◌+◌, Bool, true, false, List, [], ◌∷◌, map, Some, None, refl, sym, ap, ◌∙◌, subst, arith}
 use Rattle.std.specs.Prelude.{Option, IsTrue, option_map, count_by, cond, if◌then◌else◌, ◌==◌}
 use Rattle.std.specs.List.{AllZip}
 use Rattle.std.proofs.lemmas.Bool.{false≢true}
@@ -19,14 +19,18 @@ use Rattle.verdict_report.specs.declared.report.Entry.{Entry}
 use Rattle.verdict_report.specs.declared.report.Report.{Report}
 use Rattle.verdict_report.specs.Reports.{Question, of_traces, of_agent, questions_of, IsEntry, Reports, is_failed, is_withheld, failed_count, withheld_count}
 use Rattle.verdict_report.proofs.VerdictLaws.{one_right, one_cover}
-use Rattle.kaos_program.specs.declared.command.Command.{Command}
+use Rattle.obstacle_regression.specs.Regressions.{goal_regression}
+use Rattle.obstacle_regression.specs.Standings.{StandsSo}
 use Rattle.kaos_program.specs.declared.status.Status.{Status}
 use Rattle.kaos_program.specs.declared.status.Status.TheVariants.{Held, Failed, Withheld}
 use Rattle.kaos_program.specs.Statuses.{status_of, status_of_truths}
 use Rattle.kaos_program.specs.Truths.{AreTruthsOn, AreTruthRows, AreTruths}
 use Rattle.kaos_program.specs.Unanswered.{first_unanswered}
-use Rattle.kaos_program.specs.Answering.{IsAccepted, IsRefused, too_long, a_text, its_statements, a_link, Answers, a_refusal, a_report, truths}
+use Rattle.kaos_program.specs.Commands.{CommandForm}
+use Rattle.kaos_program.specs.Regressing.{goal_named, status_of_standings}
+use Rattle.kaos_program.specs.Answering.{IsAccepted, IsRefused, too_long, a_text, its_statements, a_link, Answers, a_refusal, a_report, no_such_goal, candidates, truths}
 use Rattle.kaos_program.specs.Laws.{verdicts_in}
+use Rattle.kaos_program.proofs.OneStanding.{same_standings}
 
 -- ---- a text is accepted as one model, or refused
 
@@ -146,18 +150,42 @@ pub record Agree (first second : Status) (report other : Option Report) : Type 0
   pub status : first ≡ second
   pub verdicts : option_map verdicts_in report ≡ option_map verdicts_in other
 
--- two right answers agree: both refuse, both report on one model, or both give the truth of its goals
-pub one_answer : (bytes : List ℕ) (command : Command) (first second : Status) (report other : Option Report) (output further : List ℕ)
+-- the goal of a name is at one place
+same_goal : (m n : ModelForm) (name : List ℕ) (goal other : ℕ) → m ≡ n → goal_named m name ≡ Some goal → goal_named n name ≡ Some other → goal ≡ other
+same_goal m n name goal other same is also = let e : Some goal ≡ Some other = sym is ∙ ap (λ (x : ModelForm). goal_named x name) same ∙ also in cc
+
+-- a name is not that of a goal and of none
+never_named : (m n : ModelForm) (name : List ℕ) (goal : ℕ) → m ≡ n → goal_named m name ≡ None → goal_named n name ≡ Some goal → ⊥
+never_named m n name goal same none some = none-some goal (sym none ∙ ap (λ (x : ModelForm). goal_named x name) same ∙ some)
+
+-- two right answers agree: both refuse, both report on one model, both name no goal or tell the candidates of one, or both give the truth of
+-- the goals
+pub one_answer : (bytes : List ℕ) (command : CommandForm) (first second : Status) (report other : Option Report) (output further : List ℕ)
     → Answers bytes command first report output → Answers bytes command second other further → Agree first second report other
 one_answer bytes command first second report other output further (a_refusal c line refused) (a_refusal d other_line also) = record { status = refl; verdicts = refl }
 one_answer bytes command first second report other output further (a_refusal c line refused) (a_report ss m budget form r accepted reports achieved) = absurd (accepted_refused bytes line ss m accepted refused)
+one_answer bytes command first second report other output further (a_refusal c line refused) (no_such_goal ss m name depth budget accepted none) = record { status = refl; verdicts = refl }
+one_answer bytes command first second report other output further (a_refusal c line refused) (candidates ss m name goal depth budget standings accepted named stand) = absurd (accepted_refused bytes line ss m accepted refused)
 one_answer bytes command first second report other output further (a_refusal c line refused) (truths ss m rows accepted right) = absurd (accepted_refused bytes line ss m accepted refused)
 one_answer bytes command first second report other output further (a_report ss m budget form r accepted reports achieved) (a_refusal c line refused) = absurd (accepted_refused bytes line ss m accepted refused)
+one_answer bytes command first second report other output further (no_such_goal ss m name depth budget accepted none) (a_refusal c line refused) = record { status = refl; verdicts = refl }
+one_answer bytes command first second report other output further (candidates ss m name goal depth budget standings accepted named stand) (a_refusal c line refused) = absurd (accepted_refused bytes line ss m accepted refused)
 one_answer bytes command first second report other output further (truths ss m rows accepted right) (a_refusal c line refused) = absurd (accepted_refused bytes line ss m accepted refused)
 one_answer bytes command first second report other output further (a_report ss m budget form r accepted reports achieved) (a_report rs n limit shape q also others reached) =
     let same = one_model bytes ss rs m n accepted.readable accepted.made also.readable also.made in
     let verdicts = same_reports m budget r q reports (subst (λ (x : ModelForm). Reports x budget q) (sym same) others) in
     record { status = same_status r q verdicts; verdicts = ap Some verdicts }
+one_answer bytes command first second report other output further (no_such_goal ss m name depth budget accepted none) (no_such_goal rs n other_name deep limit also nothing) = record { status = refl; verdicts = refl }
+one_answer bytes command first second report other output further (no_such_goal ss m name depth budget accepted none) (candidates rs n other_name goal deep limit standings also named stand) =
+    absurd (never_named m n name goal (one_model bytes ss rs m n accepted.readable accepted.made also.readable also.made) none named)
+one_answer bytes command first second report other output further (candidates ss m name goal depth budget standings accepted named stand) (no_such_goal rs n other_name deep limit also none) =
+    absurd (never_named n m name goal (one_model bytes rs ss n m also.readable also.made accepted.readable accepted.made) none named)
+one_answer bytes command first second report other output further (candidates ss m name goal depth budget standings accepted named stand) (candidates rs n other_name place deep limit others also is stands) =
+    let same = one_model bytes ss rs m n accepted.readable accepted.made also.readable also.made in
+    let goals = same_goal m n name goal place same named is in
+    let theirs : AllZip (StandsSo m budget) (goal_regression m goal depth).list others =
+    subst (λ (g : ℕ). AllZip (StandsSo m budget) (goal_regression m g depth).list others) (sym goals) (subst (λ (x : ModelForm). AllZip (StandsSo x budget) (goal_regression x place depth).list others) (sym same) stands) in
+    record { status = ap status_of_standings (same_standings m budget (goal_regression m goal depth).list standings others stand theirs); verdicts = refl }
 one_answer bytes command first second report other output further (truths ss m rows accepted right) (truths rs n others also so) =
     let same = one_model bytes ss rs m n accepted.readable accepted.made also.readable also.made in
     record { status = ap status_of_truths (same_rows m.goals m.traces rows others right (subst (λ (x : ModelForm). AreTruths x others) (sym same) so)); verdicts = refl }

@@ -2,9 +2,8 @@
 use Rattle.std.proofs.Common.{◌≡◌, refl, ℕ, ◌<◌, arith, Bool, true, false, if◌then◌else◌, List, [], ◌∷◌, length, map, String, string_bytes, Option, Some, None, option_map, option_and_then}
 use Rattle.std.specs.Global.{Global}
 use Rattle.std.specs.List.{list_any}
-use Rattle.kaos_program.specs.declared.options.Options.{Options}
 use Rattle.kaos_program.specs.Commands.{OptionForm}
-use Rattle.kaos_program.specs.Options.{is_equals_sign, option_of, option_in_one, first_option, before, options_in, with_option, with_options}
+use Rattle.kaos_program.specs.Options.{OptionsForm, is_equals_sign, option_of, option_in_one, first_option, before, options_in, with_option, with_options}
 
 -- an option, and those of the words behind it
 abbrev and_behind : OptionForm × List (List ℕ) → Option (List OptionForm)
@@ -34,14 +33,14 @@ first_and_behind word (value ∷ words) = by (list_any is_equals_sign word)
     by false = before_behind (option_of word value) words
 
 -- words that begin with no option give nothing
-pub none_first : (options : Options) (words : List (String Global))
+pub none_first : (options : OptionsForm) (words : List (String Global))
     → 0 < length words → None ≡ first_option (map string_bytes words)
     → option_and_then (with_options options) (options_in (map string_bytes words)) ≡ None
 none_first options [] some none = let never : ⊥ = omega arith in absurd never
 none_first options (word ∷ words) some none = rw (first_and_behind (string_bytes word) (map string_bytes words), ← none) refl
 
 -- words that begin with an option give what the words behind it give with it
-pub one_first : (options : Options) (words : List (List ℕ)) (o : OptionForm) (behind : List (List ℕ))
+pub one_first : (options : OptionsForm) (words : List (List ℕ)) (o : OptionForm) (behind : List (List ℕ))
     → Some (o, behind) ≡ first_option words
     → option_and_then (with_options options) (options_in words)
     ≡ option_and_then (λ more. option_and_then (with_options more) (options_in behind)) (with_option options o)
@@ -49,7 +48,7 @@ one_first options [] o behind first = cc
 one_first options (word ∷ words) o behind first =
     rw (first_and_behind word words, ← first) (by (options_in behind) (with_option options o) refl)
   where
-    by : (rest : Option (List OptionForm)) (more : Option Options) → with_option options o ≡ more
+    by : (rest : Option (List OptionForm)) (more : Option OptionsForm) → with_option options o ≡ more
         → option_and_then (with_options options) (option_map (λ os. o ∷ os) rest)
         ≡ option_and_then (λ more. option_and_then (with_options more) rest) more
     by None None e = refl

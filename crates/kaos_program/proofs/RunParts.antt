@@ -6,12 +6,11 @@ use Rattle.std.specs.Io.KnownBytes.{Keeps}
 use Rattle.source_sink.specs.Causes.{Rose}
 use Rattle.source_sink.specs.Bytes.{IsAllOf, TakesMany}
 use Rattle.verdict_report.specs.declared.report.Report.{Report}
-use Rattle.kaos_program.specs.declared.command.Command.{Command}
 use Rattle.kaos_program.specs.declared.status.Status.{Status}
 use Rattle.kaos_program.specs.declared.status.Status.TheVariants.{Refused, BadWords, ReadFault, WriteFault, OutOfMemory}
 use Rattle.kaos_program.specs.declared.running.Outcome.{Outcome}
 use Rattle.kaos_program.specs.Statuses.{is_answer}
-use Rattle.kaos_program.specs.Commands.{AreWords, AreOtherWords}
+use Rattle.kaos_program.specs.Commands.{CommandForm, AreWords, AreOtherWords}
 use Rattle.kaos_program.specs.UsageText.{usage_text}
 use Rattle.kaos_program.specs.RefusalTexts.{too_long_text}
 use Rattle.kaos_program.specs.Answering.{too_long as a_long_text, a_refusal}
@@ -24,12 +23,12 @@ long_source None new n taken = (taken.0, tt, omega (arith, taken.1))
 long_source (Some xs) None n taken = absurd taken.2
 long_source (Some xs) (Some ys) n taken = (xs, refl, omega (arith, taken.1, ap length taken.2, length-append taken.0 ys))
 
-too_long : (command : Command) (old new : Option (List ℕ)) → TakesMany old new 1048577 → AnswersAll command old new Refused None too_long_text
+too_long : (command : CommandForm) (old new : Option (List ℕ)) → TakesMany old new 1048577 → AnswersAll command old new Refused None too_long_text
 too_long command old new taken =
     let long = long_source old new 1048577 taken in
     record { bytes = long.0; all = long.1; answered = a_refusal command too_long_text (a_long_text (omega (arith, long.2))); ended = λ short. absurd (omega (arith, short, long.2)) }
 
-pub long_answers : (command : Command) (left after : Option (List ℕ)) (status : Status) (report : Option Report) → TakesMany left after 1048577 → status ≡ Refused → report ≡ None → AnswersAll command left after status report too_long_text
+pub long_answers : (command : CommandForm) (left after : Option (List ℕ)) (status : Status) (report : Option Report) → TakesMany left after 1048577 → status ≡ Refused → report ≡ None → AnswersAll command left after status report too_long_text
 long_answers command left after status report taken is none = rw (is, none) (too_long command left after taken)
 
 -- the usage text was due, and all or a front of it is written
@@ -54,7 +53,7 @@ usage_written words source sink sink_after due report outcome others is none sam
     }
 
 -- an answer was due, and all or a front of it is written
-pub answer_written : (words : List (String Global)) (source source_after sink sink_after : End) (command : Command) (due : Status) (report : Option Report) (output : List ℕ) (outcome : Outcome) → AreWords words command
+pub answer_written : (words : List (String Global)) (source source_after sink sink_after : End) (command : CommandForm) (due : Status) (report : Option Report) (output : List ℕ) (outcome : Outcome) → AreWords words command
     → is_answer due ≡ true → AnswersAll command source.bytes source_after.bytes due report output → outcome.report ≡ report
     → Finishes sink.bytes sink_after.bytes sink.faults sink_after.faults due outcome.status output → Headline words source source_after sink sink_after outcome
 answer_written words source source_after sink sink_after command due report output outcome theirs answer all same (whole e a) =
@@ -76,7 +75,7 @@ answer_written words source source_after sink sink_after command due report outp
     }
 
 -- a read failed
-pub not_read : (words : List (String Global)) (source source_after sink sink_after : End) (command : Command) (outcome : Outcome) → AreWords words command → Rose source.faults source_after.faults → outcome.status ≡ ReadFault
+pub not_read : (words : List (String Global)) (source source_after sink sink_after : End) (command : CommandForm) (outcome : Outcome) → AreWords words command → Rose source.faults source_after.faults → outcome.status ≡ ReadFault
     → outcome.report ≡ None → Keeps sink.bytes sink_after.bytes → Headline words source source_after sink sink_after outcome
 not_read words source source_after sink sink_after command outcome theirs rose e none keeps =
     record {
@@ -88,7 +87,7 @@ not_read words source source_after sink sink_after command outcome theirs rose e
     }
 
 -- memory ran out
-pub out_of_memory : (words : List (String Global)) (source source_after sink sink_after : End) (command : Command) (outcome : Outcome) → AreWords words command → outcome.status ≡ OutOfMemory → outcome.report ≡ None
+pub out_of_memory : (words : List (String Global)) (source source_after sink sink_after : End) (command : CommandForm) (outcome : Outcome) → AreWords words command → outcome.status ≡ OutOfMemory → outcome.report ≡ None
     → Keeps sink.bytes sink_after.bytes → Headline words source source_after sink sink_after outcome
 out_of_memory words source source_after sink sink_after command outcome theirs e none keeps =
     record {

@@ -1,12 +1,12 @@
 -- The options that the reader finds are those that the words spell.
-use Rattle.std.proofs.Common.{◌≡◌, refl, sym, ap, subst, ◌∙◌, ℕ, Bool, true, false, if◌then◌else◌, List, [], ◌∷◌, ◌++◌, Option, Some, None, option_map, bytes_eq}
+use Rattle.std.proofs.Common.{◌≡◌, refl, sym, ap, subst, ◌∙◌, ℕ, ⊎_elim, Bool, true, false, if◌then◌else◌, List, [], ◌∷◌, ◌++◌, Option, Some, None, option_map, bytes_eq}
 use Rattle.std.specs.Prelude.{codes}
 use Rattle.std.specs.List.{list_any, before_first, after_first}
 use Rattle.std.proofs.lemmas.Slice.Eq.{bytes_eq-Decides}
-use Rattle.kaos_program.specs.Commands.{OptionForm, a_budget, a_form, name_of, SpellsValue, SpellsOption, two_words, one_word, SpellsOptions, no_option, an_option}
-use Rattle.kaos_program.specs.Options.{budget_named, form_named, option_of, is_equals_sign, option_in_one, before, options_in}
-use Rattle.kaos_program.proofs.FoundValues.{value_in, mapped}
-use Rattle.kaos_program.proofs.SpelledValues.{budget_spelled, budget_read, form_spelled, form_read}
+use Rattle.kaos_program.specs.Commands.{OptionForm, a_budget, a_form, a_goal, a_depth, name_of, SpellsValue, SpellsOption, two_words, one_word, SpellsOptions, no_option, an_option}
+use Rattle.kaos_program.specs.Options.{number_named, form_named, option_of, is_equals_sign, option_in_one, before, options_in}
+use Rattle.kaos_program.proofs.FoundValues.{value_in, chosen, mapped}
+use Rattle.kaos_program.proofs.SpelledValues.{number_spelled, number_read, form_spelled, form_read}
 use Rattle.kaos_program.proofs.CutWords.{equals_first}
 
 -- a name and a value that spell an option
@@ -15,33 +15,45 @@ AreOf o name value = (name ≡ codes "--" ++ name_of o) × SpellsValue o value
 
 -- an option that is read of a name and a value is spelled so
 option_spelled : (name value : List ℕ) (o : OptionForm) → option_of name value ≡ Some o → AreOf o name value
-option_spelled name value o e = budget (bytes_eq name (codes "--budget")) ((bytes_eq-Decides name (codes "--budget")).0) e
+option_spelled name value o e =
+    ⊎_elim budget (λ other. ⊎_elim form (λ other. ⊎_elim goal (λ other. ⊎_elim depth (λ none. let never : None ≡ Some o = none.1 in cc)
+    (chosen (bytes_eq name (codes "--depth")) _ _ o other.1)) (chosen (bytes_eq name (codes "--goal")) _ _ o other.1))
+    (chosen (bytes_eq name (codes "--form")) _ _ o other.1)) (chosen (bytes_eq name (codes "--budget")) _ _ o e)
   where
-    form : (b : Bool) → (b ≡ true → name ≡ codes "--form")
-        → (if b then option_map a_form (form_named value) else None) ≡ Some o → AreOf o name value
-    form true is e =
-        let read = mapped a_form (form_named value) o e in
-        subst (λ (p : OptionForm). AreOf p name value) (sym read.2) (is refl, form_spelled value read.0 read.1)
-    form false is e = cc
+    named : (word : List ℕ) → bytes_eq name word ≡ true → name ≡ word
+    named word is = (bytes_eq-Decides name word).0 is
 
-    budget : (b : Bool) → (b ≡ true → name ≡ codes "--budget")
-        → (if b then option_map a_budget (budget_named value) else
-        if bytes_eq name (codes "--form") then option_map a_form (form_named value) else None) ≡ Some o
-        → AreOf o name value
-    budget true is e =
-        let read = mapped a_budget (budget_named value) o e in
-        subst (λ (p : OptionForm). AreOf p name value) (sym read.2) (is refl, budget_spelled value read.0 read.1)
-    budget false is e = form (bytes_eq name (codes "--form")) ((bytes_eq-Decides name (codes "--form")).0) e
+    budget : (bytes_eq name (codes "--budget") ≡ true) × (option_map a_budget (number_named 200000 value) ≡ Some o) → AreOf o name value
+    budget (is, e) =
+        let read = mapped a_budget (number_named 200000 value) o e in
+        subst (λ (p : OptionForm). AreOf p name value) (sym read.2) (named (codes "--budget") is, number_spelled 200000 value read.0 read.1)
+
+    form : (bytes_eq name (codes "--form") ≡ true) × (option_map a_form (form_named value) ≡ Some o) → AreOf o name value
+    form (is, e) =
+        let read = mapped a_form (form_named value) o e in
+        subst (λ (p : OptionForm). AreOf p name value) (sym read.2) (named (codes "--form") is, form_spelled value read.0 read.1)
+
+    goal : (bytes_eq name (codes "--goal") ≡ true) × (Some (a_goal value) ≡ Some o) → AreOf o name value
+    goal (is, e) = subst (λ (p : OptionForm). AreOf p name value) (value_in (a_goal value) o e) (named (codes "--goal") is, refl)
+
+    depth : (bytes_eq name (codes "--depth") ≡ true) × (option_map a_depth (number_named 6 value) ≡ Some o) → AreOf o name value
+    depth (is, e) =
+        let read = mapped a_depth (number_named 6 value) o e in
+        subst (λ (p : OptionForm). AreOf p name value) (sym read.2) (named (codes "--depth") is, number_spelled 6 value read.0 read.1)
 
 -- an option that is spelled so is read of its name and value
 option_read : (o : OptionForm) (value : List ℕ) → SpellsValue o value → option_of (codes "--" ++ name_of o) value ≡ Some o
-option_read (a_budget nodes) value spelled = ap (option_map a_budget) (budget_read value nodes spelled)
+option_read (a_budget nodes) value spelled = ap (option_map a_budget) (number_read 200000 value nodes spelled)
 option_read (a_form form) value spelled = rw spelled (ap (option_map a_form) (form_read form))
+option_read (a_goal name) value spelled = ap (λ (v : List ℕ). Some (a_goal v)) spelled
+option_read (a_depth levels) value spelled = ap (option_map a_depth) (number_read 6 value levels spelled)
 
 -- a name has no `=`
 name_whole : (o : OptionForm) → list_any is_equals_sign (codes "--" ++ name_of o) ≡ false
 name_whole (a_budget nodes) = refl
 name_whole (a_form form) = refl
+name_whole (a_goal name) = refl
+name_whole (a_depth levels) = refl
 
 -- an option in one word has one, and is cut there into its name and value
 one_cut : (o : OptionForm) (value : List ℕ) → let word : List ℕ = codes "--" ++ name_of o ++ codes "=" ++ value in
@@ -49,6 +61,8 @@ one_cut : (o : OptionForm) (value : List ℕ) → let word : List ℕ = codes "-
     × (before_first is_equals_sign word ≡ codes "--" ++ name_of o) × (after_first is_equals_sign word ≡ value)
 one_cut (a_budget nodes) value = (refl, refl, refl)
 one_cut (a_form form) value = (refl, refl, refl)
+one_cut (a_goal name) value = (refl, refl, refl)
+one_cut (a_depth levels) value = (refl, refl, refl)
 
 -- and so read
 one_read : (o : OptionForm) (value : List ℕ) → SpellsValue o value

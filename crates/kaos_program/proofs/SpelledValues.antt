@@ -11,8 +11,8 @@ use Rattle.std.proofs.lemmas.Slice.Eq.{bytes_eq-Decides}
 use Rattle.source_sink.specs.Decimals.{value_behind}
 use Rattle.verdict_report.specs.declared.form.Form.{Form}
 use Rattle.verdict_report.specs.declared.form.Form.TheVariants.{Full, Brief, Lines}
-use Rattle.kaos_program.specs.Commands.{a_budget, IsNumber, form_word, SpellsValue}
-use Rattle.kaos_program.specs.Options.{is_number, budget_of, budget_named, form_named}
+use Rattle.kaos_program.specs.Commands.{IsNumber, form_word}
+use Rattle.kaos_program.specs.Options.{is_number, within, number_named, form_named}
 use Rattle.kaos_program.proofs.FoundValues.{both, passed, value_in}
 
 -- a byte from `0` to `9`
@@ -29,42 +29,39 @@ digit_between d e =
 digit_passes : (d : ℕ) → IsDigit d → is_ascii_digit d ≡ true
 digit_passes d (low, high) = both_true (le-leb 48 d low) (le-leb d 57 high)
 
--- what passes as a number is one, of its value
-number_spelled : (word : List ℕ) → is_number word ≡ true → IsNumber word (value_behind 0 word)
-number_spelled word e =
-    let front = both (nat_le 1 (length word) && nat_le (length word) 6) (list_all is_ascii_digit word) e in
+-- a value from 1 to the most, and no other value
+inside : (most value number : ℕ) → within most value ≡ Some number → (value ≡ number) × (1 ≤ value) × (value ≤ most)
+inside most value number e =
+    let within = passed (nat_le 1 value && nat_le value most) (Some value) number e in
+    let low_high = both (nat_le 1 value) (nat_le value most) within.0 in
+    (value_in value number within.1, leb-true 1 value low_high.0, leb-true value most low_high.1)
+
+-- a number that is read is spelled so
+pub number_spelled : (most : ℕ) (word : List ℕ) (number : ℕ) → number_named most word ≡ Some number → IsNumber most word number
+number_spelled most word number e =
+    let read = passed (is_number word) (within most (value_behind 0 word)) number e in
+    let front = both (nat_le 1 (length word) && nat_le (length word) 6) (list_all is_ascii_digit word) read.0 in
     let lengths = both (nat_le 1 (length word)) (nat_le (length word) 6) front.0 in
+    let value = inside most (value_behind 0 word) number read.1 in
     record {
       some = leb-true 1 (length word) lengths.0;
       few = leb-true (length word) 6 lengths.1;
       digits = All-weaker (λ d. is_ascii_digit d ≡ true) IsDigit digit_between word (AllPass-from_list_all is_ascii_digit word front.1);
-      value = refl;
+      value = value.0;
+      low = subst (λ (n : ℕ). 1 ≤ n) value.0 value.1;
+      high = subst (λ (n : ℕ). n ≤ most) value.0 value.2;
     }
 
--- and a number passes
-number_passes : (word : List ℕ) (number : ℕ) → IsNumber word number → is_number word ≡ true
-number_passes word number is =
+-- a number passes
+number_passes : (most : ℕ) (word : List ℕ) (number : ℕ) → IsNumber most word number → is_number word ≡ true
+number_passes most word number is =
     both_true (both_true (le-leb 1 (length word) is.some) (le-leb (length word) 6 is.few))
     (list_all-from_AllPass is_ascii_digit word (All-weaker IsDigit (λ d. is_ascii_digit d ≡ true) digit_passes word is.digits))
 
--- a value from 1 to 200,000 is a budget, and no other value
-budget_inside : (value nodes : ℕ) → budget_of value ≡ Some nodes → (value ≡ nodes) × (1 ≤ value) × (value ≤ 200000)
-budget_inside value nodes e =
-    let inside = passed (nat_le 1 value && nat_le value 200000) (Some value) nodes e in
-    let low_high = both (nat_le 1 value) (nat_le value 200000) inside.0 in
-    (value_in value nodes inside.1, leb-true 1 value low_high.0, leb-true value 200000 low_high.1)
-
--- a budget that is read is spelled so
-pub budget_spelled : (word : List ℕ) (nodes : ℕ) → budget_named word ≡ Some nodes → SpellsValue (a_budget nodes) word
-budget_spelled word nodes e =
-    let number = passed (is_number word) (budget_of (value_behind 0 word)) nodes e in
-    let inside = budget_inside (value_behind 0 word) nodes number.1 in
-    subst (λ (n : ℕ). SpellsValue (a_budget n) word) inside.0 (number_spelled word number.0, inside.1, inside.2)
-
--- a budget that is spelled so is read
-pub budget_read : (word : List ℕ) (nodes : ℕ) → SpellsValue (a_budget nodes) word → budget_named word ≡ Some nodes
-budget_read word nodes (number, low, high) =
-    rw (number_passes word nodes number, number.value, le-leb 1 nodes low, le-leb nodes 200000 high) refl
+-- a number that is spelled so is read
+pub number_read : (most : ℕ) (word : List ℕ) (number : ℕ) → IsNumber most word number → number_named most word ≡ Some number
+number_read most word number is =
+    rw (number_passes most word number is, is.value, le-leb 1 number is.low, le-leb number most is.high) refl
 
 -- a form that is read is spelled so
 pub form_spelled : (word : List ℕ) (form : Form) → form_named word ≡ Some form → word ≡ form_word form

@@ -5,6 +5,7 @@ pub mod Statuses
 pub mod Unanswered
 pub mod Truths
 pub mod TruthTexts
+pub mod Regressing
 pub mod RefusalTexts
 pub mod Asking
 pub mod Achievements

@@ -1,4 +1,4 @@
--- The lines that say why a text is refused.
+-- The lines that say why a text is refused, or a goal that is asked for.
 use Rattle.std.specs.Prelude.{ℕ, List, [], ◌++◌, codes, decimal}
 use Rattle.model_text.specs.declared.limits.LimitKind.{LimitKind}
 use Rattle.model_text.specs.declared.limits.LimitKind.TheVariants.{Operators, Statements, Links, Parts, NameLength, Number, Bound, Depth}
@@ -52,6 +52,10 @@ model_refusal kind statement name = statement_refusal statement (kind_name kind 
 -- the line for a link whose demands are not answered yet
 abbrev pub not_built : ℕ → List ℕ
 not_built statement = statement_refusal statement (codes "NotBuilt")
+
+-- the line for a goal that a command names and the model has not
+abbrev pub no_goal : List ℕ → List ℕ
+no_goal name = codes "refused: no goal " ++ name ++ codes "\n"
 
 -- the line for a text of over 1,048,576 bytes, of which no token is read
 abbrev pub too_long_text : List ℕ

@@ -3,9 +3,8 @@
 ghost use Rattle.std.specs.Prelude.{◌≡◌, ℕ, List, Option, option_map, String};
 ghost use Rattle.std.specs.Global.{Global};
 ghost use Rattle.verdict_report.specs.declared.report.Report.{Report};
-ghost use Rattle.kaos_program.specs.declared.command.Command.{Command as CommandForm};
 ghost use Rattle.kaos_program.specs.declared.status.Status.{Status as StatusForm};
-ghost use Rattle.kaos_program.specs.Commands.{AreWords};
+ghost use Rattle.kaos_program.specs.Commands.{CommandForm, AreWords};
 ghost use Rattle.kaos_program.specs.Answering.{Answers};
 ghost use Rattle.kaos_program.specs.Laws.{verdicts_in};
 

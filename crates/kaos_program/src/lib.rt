@@ -1,5 +1,5 @@
-//! Answers whether the links of a goal model hold, with evidence, and which goals are true on the traces of a model: the program hands
-//! its words, a source and a sink to `run`, whose clause says what is answered.
+//! Answers whether the links of a goal model hold, with evidence, which goals are true on the traces of a model, and what could obstruct a
+//! goal: the program hands its words, a source and a sink to `run`, whose clause says what is answered.
 #![tactic(auto)]
 
 mod answer;
@@ -10,13 +10,14 @@ mod law;
 mod options;
 mod reading;
 mod refusal_text;
+mod regression;
+mod regression_text;
 mod running;
 mod status;
 mod truths;
 mod truths_text;
 mod unanswered;
 
-pub use command::Command;
 pub use law::{law_of_answers, law_of_words};
 pub use running::{Outcome, run};
 pub use status::Status;

@@ -1,9 +1,9 @@
-//! The lines that say why a text is refused: one line each, for whoever edits the text, with the
+//! The lines that say why a text is refused, or a goal that is asked for: one line each, for whoever edits the text, with the
 //! place of a byte, from 0, or the number of a statement, from 1. Their bytes are changed here, in
 //! specs/RefusalTexts.antt and in docs/LANGUAGE.md.
 
 ghost use Rattle.std.specs.Prelude.{◌≡◌, ◌++◌, codes, decimal, IfOk};
-ghost use Rattle.kaos_program.specs.RefusalTexts.{limit_name as limit_name_of, kind_name as kind_name_of, text_refusal as text_refusal_of, statement_refusal as statement_refusal_of, model_refusal as model_refusal_of, not_built as not_built_of};
+ghost use Rattle.kaos_program.specs.RefusalTexts.{no_goal as no_goal_of, limit_name as limit_name_of, kind_name as kind_name_of, text_refusal as text_refusal_of, statement_refusal as statement_refusal_of, model_refusal as model_refusal_of, not_built as not_built_of};
 
 use goal_model::RefusalKind;
 use model_text::{LimitKind, TextRefusal};
@@ -113,4 +113,15 @@ pub(crate) fn not_built(alloc: Global, statement: u32) -> Result<Vec<u8>, Memory
     ensures { IfOk result (λ line. line.items ≡ not_built_of statement) }
 {
     statement_refusal(alloc, statement, b"NotBuilt")
+}
+
+/// The line for a goal that the words name and the model has not.
+pub(crate) fn no_goal(alloc: Global, name: &str) -> Result<Vec<u8>, Memory>
+    ensures { IfOk result (λ line. line.items ≡ no_goal_of name.now) }
+{
+    let mut line = Vec::new(alloc);
+    put(&mut line, b"refused: no goal ")?;
+    put(&mut line, name.as_bytes())?;
+    put(&mut line, b"\n")?;
+    Ok(line)
 }

@@ -17,7 +17,7 @@ use verdict_report::Report;
 
 /// The commands with their options, a line for each.
 const USAGE: &[u8] =
-    b"usage: kaos check [--budget N] [--form full|brief|lines]\n       kaos trace\n";
+    b"usage: kaos check [--budget N] [--form full|brief|lines]\n       kaos regress --goal NAME [--depth N] [--budget N]\n       kaos trace\n";
 
 /// How a run ends. The report is there under `check` where the text was accepted, also where a write failed.
 #[derive(Drop)]

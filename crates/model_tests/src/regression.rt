@@ -2,15 +2,20 @@
 //! then for each candidate, for each of its parts from the inside out, for each rule in order, the candidate with the rule's cause in place
 //! of that part, where its effect is the part or a narrower choice of values.
 
-ghost use Rattle.std.specs.Prelude.{All, IfOk};
+ghost use Rattle.std.specs.Prelude.{◌≡◌, true, All, IfOk};
+ghost use Rattle.bound_unfolding.specs.CoreLists.{cores_of};
 ghost use Rattle.bound_unfolding.specs.CoreTexts.{CoreFits};
 ghost use Rattle.bound_unfolding.specs.CoreView.{core_tree_of};
+ghost use Rattle.goal_model.specs.Models.{sizes_of};
 ghost use Rattle.goal_model.specs.ModelViews.{model_of};
+ghost use Rattle.obstacle_regression.specs.Candidates.{is_small};
+ghost use Rattle.obstacle_regression.specs.Regressions.{total_nodes, domain_formulas};
 
 use crate::texts::{bytes_of, compare, cut, model_in, parts_of};
 use bound_unfolding::core_text;
+use entailment::Engine;
 use goal_model::Model;
-use obstacle_regression::{Regressed, regress};
+use obstacle_regression::{Regressed, Standing, regress, standings};
 use std::alloc::{AllocError, Global};
 use std::process::Abort;
 use std::str;
@@ -18,7 +23,8 @@ use std::test::Fail;
 
 // The candidates of the first goal.
 fn found_in(rt: &impl Abort, alloc: Global, model: &Model, depth: u8) -> Result<Regressed, Fail>
-    ensures { IfOk result (λ r. All (λ c. CoreFits (model_of model.now).ranges (core_tree_of c)) r.list.items) }
+    ensures fits { IfOk result (λ r. All (λ c. CoreFits (model_of model.now).ranges (core_tree_of c)) r.list.items) }
+    ensures small { IfOk result (λ r. All (λ c. is_small (total_nodes (cores_of (sizes_of (model_of model.now)) (domain_formulas (model_of model.now)))) (core_tree_of c) ≡ true) r.list.items) }
 {
     assert!(rt; !model.goals().is_empty());
     Ok(regress(alloc, model, 0, depth)?)
@@ -119,6 +125,47 @@ fn numbers_of_candidates(rt: HostRuntime) -> Result<(), Fail> {
     for row in COUNTS.lines() {
         let (name, text, due) = parts_of(row)?;
         let made = counted(&rt, alloc, text)?;
+        compare(&rt, name, str::from_utf8(&made)?, due);
+    }
+    Ok(())
+}
+
+fn word_of(standing: Standing) -> &'static str {
+    match standing {
+        Standing::Possible => "possible;",
+        Standing::Impossible => "impossible;",
+        Standing::Withheld(_) => "withheld;",
+    }
+}
+
+// How each candidate of two levels stands, under a budget.
+fn stood(rt: &impl Abort, alloc: Global, row: &str) -> Result<Vec<u8>, Fail> {
+    let (budget, statements) = cut(row, " ")?;
+    let bytes = bytes_of(alloc, "kaos 1; ", statements)?;
+    let model = model_in(rt, alloc, &bytes)?;
+    let found = found_in(rt, alloc, &model, 2)?;
+    let list = standings(alloc, &Engine, &model, &found.list, budget.parse::<u32>()?)?;
+    let mut out = Vec::new(alloc);
+    for standing in &list {
+        put(&mut out, word_of(*standing))?;
+    }
+    Ok(out)
+}
+
+const STANDINGS: &str = "\
+each of two | 20000 var moving: bool; var closed: bool; var brakefail: bool; rule R: brakefail entails moving; goal G: always (moving implies closed); | possible;possible;
+one that a property rules out | 20000 var a: bool; var b: bool; domain D: always not b; rule R: b entails a; goal G: always not a; | possible;impossible;
+one behind it | 20000 var a: bool; var b: bool; var c: bool; domain D: always not b; rule R: b entails a; rule S: c entails b; goal G: always not a; | possible;impossible;impossible;
+a goal that the domain has | 20000 var a: bool; domain D: always a; goal G: eventually a; | impossible;
+properties without a trace | 20000 var a: bool; domain D: a; domain E: not a; goal G: always not a; | impossible;
+a budget of one node | 1 var a: bool; var b: bool; rule R: b entails a; goal G: always not a; | withheld;withheld;";
+
+#[test]
+fn standings_of_candidates(rt: HostRuntime) -> Result<(), Fail> {
+    let alloc = rt.alloc();
+    for row in STANDINGS.lines() {
+        let (name, text, due) = parts_of(row)?;
+        let made = stood(&rt, alloc, text)?;
         compare(&rt, name, str::from_utf8(&made)?, due);
     }
     Ok(())

@@ -96,10 +96,26 @@ a form that is missing | [check] [--form=lines] [--form]
 a form twice | [check] [--form] [lines] [--budget=5] [--form=full]
 an unknown option | [check] [--workers] [1]
 one dash | [check] [-form] [lines]
-an option of another command | [trace] [--budget] [1]";
+an option of another command | [trace] [--budget] [1]
+a goal of a check | [check] [--goal] [G]
+a depth of a check | [check] [--form=lines] [--depth=3]
+a regression of no goal | [regress]
+a depth alone | [regress] [--depth=2]
+a goal without its option | [regress] [G]
+a goal that is missing | [regress] [--depth=2] [--goal]
+a goal twice | [regress] [--goal=G] [--goal] [G]
+a form of a regression | [regress] [--goal=G] [--form=lines]
+no level | [regress] [--goal=G] [--depth=0]
+a depth over the greatest | [regress] [--goal=G] [--depth] [7]
+seven digits of a depth | [regress] [--goal=G] [--depth=0000003]
+a depth that is no number | [regress] [--goal=G] [--depth=two]
+an empty depth | [regress] [--goal=G] [--depth=]
+a depth twice | [regress] [--depth=2] [--goal=G] [--depth=2]
+a budget of no node for a regression | [regress] [--goal=G] [--budget=0]
+a goal behind a trace | [trace] [--goal=G]";
 
 const USAGE: &str =
-    "3\nusage: kaos check [--budget N] [--form full|brief|lines]\n       kaos trace\n";
+    "3\nusage: kaos check [--budget N] [--form full|brief|lines]\n       kaos regress --goal NAME [--depth N] [--budget N]\n       kaos trace\n";
 
 const REPORT: &str = "1
 kaos report 1 budget 5

@@ -23,7 +23,7 @@ at_is [] k e l = absurd (omega arith)
 at_is (x ∷ xs) zero e l = refl
 at_is (x ∷ xs) (suc k) e l = at_is xs k e (omega arith)
 
-closure_stands : (c : CoreForm) → All (λ l. IsSubformula l c) (closure_of (c ∷ []))
+pub closure_stands : (c : CoreForm) → All (λ l. IsSubformula l c) (closure_of (c ∷ []))
 closure_stands c k e l = subst (λ z. IsSubformula z c) (sym (at_is (closure_of (c ∷ [])) k e l)) (core_only c [] k (omega arith) l)
 
 module _ (rules : List RuleCores) (beside : ℕ) (first : CoreForm) where

@@ -47,6 +47,10 @@ module _ (m : ModelForm) (fit : PartsFit m) (goal depth : ℕ) (known : goal < l
       obstructs_through (rule_formulas m) (domain_formulas m) (rules_all (Fits m.ranges) m fit.domains) c has t is.0
       (rules_all (λ f. Truth t f 0) m (all_mapped (λ f. Truth t f 0) (λ (p : PropertyForm). p.formula) m.domains is.1))
 
+-- and so have their formulas
+pub properties_all : (P : Ltl → Type 0) (m : ModelForm) → All (λ p. P p.formula) m.domains → All P (domain_formulas m)
+properties_all P m h = All-map P (λ p. p.formula) m.domains h
+
 -- and so has the list without parts
 pub domains_all : (P : Ltl → Type 0) (m : ModelForm) → All (λ p. P p.formula) m.domains → All P (list_of m [])
-domains_all P m h = subst (All P) (sym (append-nil (domain_formulas m))) (All-map P (λ p. p.formula) m.domains h)
+domains_all P m h = subst (All P) (sym (append-nil (domain_formulas m))) (properties_all P m h)

@@ -7,10 +7,11 @@ pub mod Goals
 pub mod Whole
 pub mod FirstLarge
 pub mod Settled
-pub mod Walked
+pub mod Levels
 pub mod Monotone
 pub mod Deriving
 pub mod Obstructing
 pub mod Keeping
 pub mod GoalObstacles
 pub mod ObstructionLaws
+pub mod Told

@@ -3,8 +3,8 @@ pub mod Replacements
 pub mod Extents
 pub mod Candidates
 pub mod Derivations
-pub mod Parts
 pub mod Regressions
 pub mod Sides
 pub mod Views
 pub mod Obstructions
+pub mod Standings

@@ -7,11 +7,14 @@ mod demand;
 mod extent;
 mod fingerprint;
 mod law;
+mod parts;
 mod regression;
 mod replacement;
 mod rule;
 mod search;
+mod standing;
 
 pub use demand::obstacle_demands;
 pub use law::{law_of_obstructions, law_of_regression, law_of_replacement};
 pub use regression::{Regressed, regress, regress_through};
+pub use standing::{Standing, standings};

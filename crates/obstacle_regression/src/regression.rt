@@ -1,15 +1,17 @@
 //! The candidates for obstacles of a goal, by regression over rules.
 
-ghost use Rattle.std.specs.Prelude.{◌≡◌, ◌<◌, All, length, map, min, IfOk};
+ghost use Rattle.std.specs.Prelude.{◌≡◌, ◌<◌, true, All, length, map, min, IfOk};
 ghost use Rattle.state_space.specs.Spaces.{ranges, sizes};
 ghost use Rattle.temporal_logic.specs.Trees.{tree_of};
 ghost use Rattle.temporal_logic.specs.Fits.{Fits};
 ghost use Rattle.bound_unfolding.specs.CoreLists.{cores_of};
 ghost use Rattle.bound_unfolding.specs.CoreTexts.{CoreFits};
 ghost use Rattle.bound_unfolding.specs.CoreView.{core_tree_of};
+ghost use Rattle.goal_model.specs.Models.{sizes_of};
 ghost use Rattle.goal_model.specs.ModelViews.{model_of};
+ghost use Rattle.obstacle_regression.specs.Candidates.{is_small};
 ghost use Rattle.obstacle_regression.specs.Views.{regressed_of};
-ghost use Rattle.obstacle_regression.specs.Regressions.{total_nodes, rule_formulas, regression_through, goal_regression};
+ghost use Rattle.obstacle_regression.specs.Regressions.{total_nodes, rule_formulas, domain_formulas, regression_through, goal_regression};
 
 use crate::extent::extents_of;
 use crate::rule::Rule;
@@ -71,6 +73,7 @@ pub fn regress_through(
     requires beside { All (λ f. Fits (model_of model.now).ranges (tree_of f)) beside.now }
     ensures list { IfOk result (λ r. regressed_of r ≡ regression_through (model_of model.now) goal (map tree_of rules.now) (map tree_of beside.now) depth) }
     ensures fits { IfOk result (λ r. All (λ c. CoreFits (model_of model.now).ranges (core_tree_of c)) r.list.items) }
+    ensures small { IfOk result (λ r. All (λ c. is_small (total_nodes (cores_of (sizes_of (model_of model.now)) (map tree_of beside.now))) (core_tree_of c) ≡ true) r.list.items) }
 {
     let space = model.space();
     let formula = &model.goals()[goal].formula;
@@ -95,6 +98,7 @@ pub fn regress(alloc: Global, model: &Model, goal: usize, depth: u8) -> Result<R
     requires goal { goal < length (model_of model.now).goals }
     ensures list { IfOk result (λ r. regressed_of r ≡ goal_regression (model_of model.now) goal depth) }
     ensures fits { IfOk result (λ r. All (λ c. CoreFits (model_of model.now).ranges (core_tree_of c)) r.list.items) }
+    ensures small { IfOk result (λ r. All (λ c. is_small (total_nodes (cores_of (sizes_of (model_of model.now)) (domain_formulas (model_of model.now)))) (core_tree_of c) ≡ true) r.list.items) }
 {
     let rules = rules_of(alloc, model)?;
     let beside = demand_list(alloc, model, &[])?;

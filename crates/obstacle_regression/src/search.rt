@@ -10,6 +10,7 @@ ghost use Rattle.obstacle_regression.specs.Candidates.{is_small};
 
 use crate::candidate::Candidate;
 use crate::extent::extent_replaced;
+use crate::parts::parts_of;
 use crate::regression::Regressed;
 use crate::replacement::replaced;
 use crate::rule::{Rule, Side};
@@ -32,7 +33,6 @@ pub(crate) struct Search {
 impl Search {
     ghost use Rattle.obstacle_regression.specs.Replacements as replacements;
     ghost use Rattle.obstacle_regression.specs.Candidates.{given_for, given_by, with_candidate, with_candidates, with_levels};
-    ghost use Rattle.obstacle_regression.specs.Parts.{parts, parts_below};
     ghost use Rattle.obstacle_regression.specs.Views.{side_core, rule_of, candidate_core, search_of, regressed_of};
 
     /// A search that has found nothing so far.
@@ -132,65 +132,18 @@ impl Search {
         Ok(())
     }
 
-    // What the rules give of the core for each part of a part of it, and then for that part itself.
-    #[cycle(parts)]
-    fn offer_parts(
-        &mut self,
-        alloc: Global,
-        core: &Core,
-        part: &Core,
-        rules: &[Rule<'_>],
-    ) -> Result<(), Memory>
-        requires part { IsSubformula (core_tree_of part.now) (core_tree_of core.now) }
+    // What the rules give of the core for each of its parts.
+    fn offer_parts(&mut self, alloc: Global, core: &Core, rules: &[Rule<'_>]) -> Result<(), Memory>
         requires small { is_small 0 (core_tree_of core.now) ≡ true }
-        ensures taken { OnOk result (search_of self.new ≡ with_candidates self.old.beside (search_of self.old) (flat_map (given_for (map rule_of rules.now) (core_tree_of core.now)) (parts (core_tree_of part.now)))) }
+        ensures taken { OnOk result (search_of self.new ≡ with_candidates self.old.beside (search_of self.old) (given_by (map rule_of rules.now) (core_tree_of core.now))) }
         ensures beside { self.new.beside ≡ self.old.beside }
     {
-        self.offer_below(alloc, core, part, rules)?;
-        self.offer_rules(alloc, core, part, rules)
-    }
-
-    // What the rules give of the core for each part of a part of it, but for that part itself.
-    #[cycle(parts)]
-    fn offer_below(
-        &mut self,
-        alloc: Global,
-        core: &Core,
-        part: &Core,
-        rules: &[Rule<'_>],
-    ) -> Result<(), Memory>
-        requires part { IsSubformula (core_tree_of part.now) (core_tree_of core.now) }
-        requires small { is_small 0 (core_tree_of core.now) ≡ true }
-        ensures taken { OnOk result (search_of self.new ≡ with_candidates self.old.beside (search_of self.old) (flat_map (given_for (map rule_of rules.now) (core_tree_of core.now)) (parts_below (core_tree_of part.now)))) }
-        ensures beside { self.new.beside ≡ self.old.beside }
-    {
-        match part {
-            Core::True | Core::False | Core::Lit(_, _) => Ok(()),
-            Core::Next(a) => self.offer_parts(alloc, core, a, rules),
-            Core::And(a, b) | Core::Or(a, b) | Core::Until(a, b) | Core::Release(a, b) => {
-                self.offer_two(alloc, core, a, b, rules)
-            }
+        let list = parts_of(alloc, core)?;
+        let parts = list.as_slice();
+        'parts: for part in parts {
+            self.offer_rules(alloc, core, part, rules)?;
         }
-    }
-
-    // What the rules give of the core for each part of two parts of it.
-    #[cycle(parts)]
-    fn offer_two(
-        &mut self,
-        alloc: Global,
-        core: &Core,
-        a: &Core,
-        b: &Core,
-        rules: &[Rule<'_>],
-    ) -> Result<(), Memory>
-        requires first { IsSubformula (core_tree_of a.now) (core_tree_of core.now) }
-        requires second { IsSubformula (core_tree_of b.now) (core_tree_of core.now) }
-        requires small { is_small 0 (core_tree_of core.now) ≡ true }
-        ensures taken { OnOk result (search_of self.new ≡ with_candidates self.old.beside (search_of self.old) (flat_map (given_for (map rule_of rules.now) (core_tree_of core.now)) (parts (core_tree_of a.now) ++ parts (core_tree_of b.now)))) }
-        ensures beside { self.new.beside ≡ self.old.beside }
-    {
-        self.offer_parts(alloc, core, a, rules)?;
-        self.offer_parts(alloc, core, b, rules)
+        Ok(())
     }
 
     // What the rules give of each candidate from a place on, as far as the list goes now.
@@ -201,7 +154,7 @@ impl Search {
         let end = self.candidates.len();
         'level: for place in from..end {
             let core = self.candidates[place].core.clone(alloc)?;
-            self.offer_parts(alloc, &core, &core, rules)?;
+            self.offer_parts(alloc, &core, rules)?;
         }
         Ok(())
     }

@@ -7,13 +7,17 @@ use Rattle.state_space.specs.Ranges.{size_of}
 use Rattle.temporal_logic.specs.Fits.{Fits}
 use Rattle.temporal_logic.specs.Trees.{tree_of}
 use Rattle.bound_unfolding.specs.CoreTree.{core_tree}
+use Rattle.bound_unfolding.specs.CoreForm.{CoreForm}
+use Rattle.bound_unfolding.specs.CoreLists.{cores_of}
 use Rattle.bound_unfolding.specs.CoreTexts.{CoreFits}
 use Rattle.bound_unfolding.specs.CoreView.{core_tree_of}
 use Rattle.goal_model.specs.Models.{sizes_of}
 use Rattle.goal_model.specs.ModelViews.{model_of}
 use Rattle.goal_model.specs.Items.{no_goal}
 use Rattle.state_space.proofs.SpaceFacts.{sizes_of_ranges}
-use Rattle.obstacle_regression.specs.Candidates.{FoundForm, with_candidate}
+use Rattle.obstacle_regression.specs.Candidates.{FoundForm, is_small, with_candidate}
+use Rattle.obstacle_regression.specs.Regressions.{rules_among, total_nodes, domain_cores}
+use Rattle.obstacle_regression.proofs.Keeping.{candidates_small}
 use Rattle.obstacle_regression.specs.Views.{rule_of, search_of}
 use Rattle.obstacle_regression.proofs.Goals.{goal_is, goal_fits}
 use Rattle.obstacle_regression.proofs.Halves.{all_mapped}
@@ -68,3 +72,12 @@ returns-clause-fits c =
     let beside = map tree_of c.args.beside.now in
     let fit = candidates_fit m c.args.model.now.well_formed.parts c.args.goal c.args.depth c.requires.goal rules beside (All-map (Fits m.ranges) tree_of c.args.rules.now c.requires.rules) in
     IfOk-weaker c.finish.result _ _ (λ r is. all_mapped (CoreFits m.ranges) core_tree_of r.list.items (subst (λ (f : FoundForm). All (CoreFits m.ranges) f.list) (sym is) fit)) (returns-clause-list c)
+
+pub returns-clause-small : goal.returns-clause-small
+returns-clause-small c =
+    let m = model_of c.args.model.now in
+    let rules = map tree_of c.args.rules.now in
+    let beside = map tree_of c.args.beside.now in
+    let P = λ (k : CoreForm). is_small (total_nodes (cores_of (sizes_of m) beside)) k ≡ true in
+    let small = candidates_small (domain_cores (sizes_of m) (rules_among rules) beside) (core_tree (sizes_of m) false (slice_index_or m.goals c.args.goal no_goal).formula) c.args.depth in
+    IfOk-weaker c.finish.result _ _ (λ r is. all_mapped P core_tree_of r.list.items (subst (λ (f : FoundForm). All P f.list) (sym is) small)) (returns-clause-list c)

@@ -1,12 +1,10 @@
 use Rattle.std.proofs.Common.{◌≡◌, ◌<◌, ◌≤◌, sym, ◌∙◌, ap, subst, arith, map, length, get_or}
-use Rattle.std.specs.Prelude.{flat_map}
 use Rattle.std.proofs.lemmas.List.{length-map, get_or-map}
 use Rattle.bound_unfolding.specs.CoreView.{core_tree_of}
-use Rattle.obstacle_regression.specs.Candidates.{FoundForm, given_for, with_candidates}
-use Rattle.obstacle_regression.specs.Parts.{parts}
+use Rattle.obstacle_regression.specs.Candidates.{FoundForm, given_by, with_candidates}
 use Rattle.obstacle_regression.specs.Views.{rule_of, candidate_core, search_of}
 use Rattle.obstacle_regression.proofs.Settled.{many_longer, many_front}
-use Rattle.obstacle_regression.proofs.Walked.{level_step}
+use Rattle.obstacle_regression.proofs.Levels.{level_step}
 use Rattle.obstacle_regression.proofs.search.Search.offer_level.Goals as goal
 
 pub level-preserved : goal.level-preserved
@@ -19,7 +17,7 @@ level-preserved c =
     let core = core_tree_of c.in_ok-core.core in
     let level = map candidate_core first.candidates.items in
     let list = map candidate_core mid.candidates.items in
-    let given = flat_map (given_for rules core) (parts core) in
+    let given = given_by rules core in
     let count : length level ≡ c.len-end.result = length-map first.candidates.items candidate_core ∙ sym first.candidates.ok.0 ∙ sym c.len-end.ensures in
     let inside : place < length level = omega (arith, c.level-test.true, count) in
     let items : place < length mid.candidates.items = omega (arith, inside, c.level.invariant.longer, length-map mid.candidates.items candidate_core) in

@@ -3,7 +3,7 @@ use Rattle.std.specs.Prelude.{flat_map}
 use Rattle.std.proofs.lemmas.List.{length-map}
 use Rattle.obstacle_regression.specs.Candidates.{DomainCores, given_by, with_candidates, with_levels}
 use Rattle.obstacle_regression.specs.Views.{rule_of, candidate_core, search_of}
-use Rattle.obstacle_regression.proofs.Walked.{levels_step}
+use Rattle.obstacle_regression.proofs.Levels.{levels_step}
 use Rattle.obstacle_regression.proofs.search.Search.offer_levels.Goals as goal
 
 pub levels-preserved : goal.levels-preserved
