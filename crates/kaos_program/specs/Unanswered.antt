@@ -2,11 +2,11 @@
 use Rattle.std.specs.Prelude.{ℕ, Bool, true, false, List, [], ◌∷◌, Option, Some, None, is_none, if◌then◌else◌}
 use Rattle.goal_model.specs.Models.{LinkForm, refine, obstruct, conflict, operationalise, assign}
 
--- all links are answered but conflicts and refinements that name a pattern, which are not yet
+-- all links are answered but refinements that name a pattern, which are not yet
 abbrev pub is_answered : LinkForm → Bool
 is_answered (refine statement parent subgoals pattern) = is_none pattern
 is_answered (obstruct statement goal obstacles) = true
-is_answered (conflict statement name goals boundary) = false
+is_answered (conflict statement name goals boundary) = true
 is_answered (operationalise statement goal requirements exact) = true
 is_answered (assign statement goal agent) = true
 

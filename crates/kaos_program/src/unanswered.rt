@@ -6,14 +6,16 @@ ghost use Rattle.kaos_program.specs.Unanswered.{is_answered as is_answered_form,
 
 use goal_model::Link;
 
-// All but conflicts and refinements that name a pattern are answered.
+// All but refinements that name a pattern are answered.
 fn is_answered(link: &Link) -> bool
     ensures { result ≡ is_answered_form (link_of link.now) }
 {
     match link {
         Link::Refine { pattern, .. } => pattern.is_none(),
-        Link::Obstruct { .. } | Link::Operationalise { .. } | Link::Assign { .. } => true,
-        Link::Conflict { .. } => false,
+        Link::Obstruct { .. }
+        | Link::Conflict { .. }
+        | Link::Operationalise { .. }
+        | Link::Assign { .. } => true,
     }
 }
 

@@ -239,7 +239,7 @@ an attribute that is not declared | kaos 2; var a: bool; goal G: always f(e); | 
 all of no type | kaos 2; goal G: all x: E (f(x)); | refused: statement 2: UnknownName E
 some of no type | kaos 2; goal G: some x: E (true); | refused: statement 2: UnknownName E
 a type behind its attribute | kaos 2; attr f of E: bool; entity E: {a, b}; | refused: statement 2: UnknownName E
-a link that is not answered | kaos 2; entity T: {a, b}; attr f of T: bool; goal G: f(a); goal H: f(b); conflict C: G, H boundary f(a); | refused: statement 6: NotBuilt";
+a link that is not answered | kaos 2; entity T: {a, b}; attr f of T: bool; goal G: f(a); goal H: f(b); refine G by H using split; | refused: statement 6: NotBuilt";
 
 #[test]
 fn whole_texts_of_version_2(rt: HostRuntime) -> Result<(), Fail> {

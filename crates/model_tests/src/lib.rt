@@ -6,6 +6,8 @@
 #[cfg(test)]
 mod candidates;
 #[cfg(test)]
+mod conflicts;
+#[cfg(test)]
 mod entities;
 #[cfg(test)]
 mod evidence;

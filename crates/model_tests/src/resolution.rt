@@ -252,13 +252,12 @@ each by the other | refine A by B; refine B by A; | refused: statement 6: Cycle 
 a subgoal twice | refine A by B, B; | refused: statement 5: DuplicateName B
 an unknown subgoal | refine A by X; | refused: statement 5: UnknownName X
 a goal by itself | refine A by A; | refused: statement 5: Cycle A
-# The first conflict or refinement by a pattern is not answered yet, where all is resolved.
-a conflict | conflict C: A, B boundary a; | refused: statement 5: NotBuilt
+# The first refinement by a pattern is not answered yet, where all is resolved.
 a pattern | refine A by B using split; | refused: statement 5: NotBuilt
 a pattern of a goal's name | goal split: a; refine A by B using split; | refused: statement 6: NotBuilt
-behind other links | agent C; assign B to C; operation S by C dompre a dompost not a; require R on S pre a; operationalise A by R; conflict C1: A, B boundary a; | refused: statement 10: NotBuilt
+behind other links | agent C; assign B to C; operation S by C dompre a dompost not a; require R on S pre a; operationalise A by R; conflict C1: A, B boundary a; refine A by B using split; | refused: statement 11: NotBuilt
 behind a plain refinement | refine A by B; refine A by B using guard; conflict C: A, B boundary a; | refused: statement 6: NotBuilt
-before a plain refinement | conflict C: A, B boundary a; refine A by B; | refused: statement 5: NotBuilt
+before a plain refinement | refine A by B using cases; refine A by B; | refused: statement 5: NotBuilt
 before an expectation | agent C; expect A of C; refine A by B using induction; expect B of C; | refused: statement 7: NotBuilt
 before an unknown name | refine A by B using milestone; goal G: b; | refused: statement 6: UnknownName b
 before a cycle | conflict C: A, B boundary a; refine A by A; | refused: statement 6: Cycle A";
@@ -291,12 +290,12 @@ an obstructed goal | goal k: [5 always within 100 ]a; obstacle o: a; obstruct k 
 a boundary | conflict K: g, h boundary [5 always within 100 ]a; | refused: statement 6: TooLarge K
 a goal of a conflict | goal k: [5 always within 100 ]a; conflict K: g, k boundary a; | refused: statement 7: TooLarge K
 an operationalised goal | goal k: [5 always within 100 ]a; agent A; operation s by A dompre a dompost b; require r on s pre a; operationalise k by r; | refused: statement 10: TooLarge k
-an assigned goal is in no list | goal k: [5 always within 100 ]a; agent A; assign k to A; conflict K: g, h boundary a; | refused: statement 9: NotBuilt
+an assigned goal is in no list | goal k: [5 always within 100 ]a; agent A; assign k to A; refine g by h using split; | refused: statement 9: NotBuilt
 # In the order of the statements, whatever links they are.
 a conflict before a refinement | goal k: [5 always within 100 ]a; conflict K: g, k boundary a; refine g by k; | refused: statement 7: TooLarge K
 a refinement before a conflict | goal k: [5 always within 100 ]a; refine g by k; conflict K: g, k boundary a; | refused: statement 7: TooLarge g
-behind a link that is not answered | goal k: [5 always within 100 ]a; conflict K: g, h boundary a; refine g by k; | refused: statement 8: TooLarge g
-before a link that is not answered | goal k: [5 always within 100 ]a; refine g by k; conflict K: g, h boundary a; | refused: statement 7: TooLarge g
+behind a link that is not answered | goal k: [5 always within 100 ]a; refine g by h using split; refine g by k; | refused: statement 8: TooLarge g
+before a link that is not answered | goal k: [5 always within 100 ]a; refine g by k; refine g by h using split; | refused: statement 7: TooLarge g
 before an unknown name | goal k: [5 always within 100 ]a; refine g by k; goal l: z; | refused: statement 8: UnknownName z
 before a cycle | goal k: [5 always within 100 ]a; refine g by k; refine h by h; | refused: statement 8: Cycle h
 # A core has at most 1,000 levels, in the list or negated.
@@ -322,15 +321,15 @@ each bound of another operand | [21 var x#: bool;]domain d: [20 always within 10
 bounds of one operand | var a: bool; goal g: a; goal h: [20 always within 100 a and ]always within 100 a; refine g by h using split; | refused: statement 5: NotBuilt
 # Obstacles that are small each: 4,005 by five of them, 91 by the sixth, and 1 of the negated goal.
 obstacles together | [7 var x#: bool;]goal g: x6; obstacle o0: [4 always within 100 ]x0; obstacle o1: [4 always within 100 ]x1; obstacle o2: [4 always within 100 ]x2; obstacle o3: [4 always within 100 ]x3; obstacle o4: [4 always within 100 ]x4; obstacle o5: always within 45 x5; obstruct g by o0, o1, o2, o3, o4, o5; | refused: statement 16: TooLarge g
-with the literal of the goal | [7 var x#: bool;]goal g: x5; obstacle o0: [4 always within 100 ]x0; obstacle o1: [4 always within 100 ]x1; obstacle o2: [4 always within 100 ]x2; obstacle o3: [4 always within 100 ]x3; obstacle o4: [4 always within 100 ]x4; obstacle o5: always within 45 x5; obstruct g by o0, o1, o2, o3, o4, o5; goal h: true; conflict K: g, h boundary true; | refused: statement 18: NotBuilt
+with the literal of the goal | [7 var x#: bool;]goal g: x5; obstacle o0: [4 always within 100 ]x0; obstacle o1: [4 always within 100 ]x1; obstacle o2: [4 always within 100 ]x2; obstacle o3: [4 always within 100 ]x3; obstacle o4: [4 always within 100 ]x4; obstacle o5: always within 45 x5; obstruct g by o0, o1, o2, o3, o4, o5; goal h: true; refine g by h using split; | refused: statement 18: NotBuilt
 # Goals of a conflict: 4,094, and 3 or 2 of the boundary.
 goals together | [7 var x#: bool;]goal g0: [4 always within 100 ]x0; goal g1: [4 always within 100 ]x1; goal g2: [4 always within 100 ]x2; goal g3: [4 always within 100 ]x3; goal g4: [4 always within 100 ]x4; goal g5: always within 44 x5; conflict K: g0, g1, g2, g3, g4, g5 boundary eventually x6; | refused: statement 15: TooLarge K
-with one formula less | [7 var x#: bool;]goal g0: [4 always within 100 ]x0; goal g1: [4 always within 100 ]x1; goal g2: [4 always within 100 ]x2; goal g3: [4 always within 100 ]x3; goal g4: [4 always within 100 ]x4; goal g5: always within 44 x5; conflict K: g0, g1, g2, g3, g4, g5 boundary next x6; | refused: statement 15: NotBuilt
+with one formula less | [7 var x#: bool;]goal g0: [4 always within 100 ]x0; goal g1: [4 always within 100 ]x1; goal g2: [4 always within 100 ]x2; goal g3: [4 always within 100 ]x3; goal g4: [4 always within 100 ]x4; goal g5: always within 44 x5; conflict K: g0, g1, g2, g3, g4, g5 boundary next x6; refine g0 by g1 using split; | refused: statement 16: NotBuilt
 # A requirement stands for a formula over its operation's conditions.
 a condition before | [21 var x#: 0..63;]var y: 0..63; agent A; operation s by A dompre [21 x# = y and ]true dompost true; require r on s post true; goal g: true; operationalise g by r; | refused: statement 28: TooLarge g
 a condition behind | [21 var x#: 0..63;]var y: 0..63; agent A; operation s by A dompre true dompost [21 x# = y and ]true; require r on s trig true; goal g: true; operationalise g by r; | refused: statement 28: TooLarge g
 the required formula | [21 var x#: 0..63;]var y: 0..63; agent A; operation s by A dompre true dompost true; require r on s pre [21 x# = y and ]true; goal g: true; operationalise g by r; | refused: statement 28: TooLarge g
-smaller conditions | [20 var x#: 0..63;]var y: 0..63; agent A; operation s by A dompre [20 x# = y and ]true dompost true; require r on s post true; goal g: true; operationalise g by r; goal h: true; conflict K: g, h boundary true; | refused: statement 29: NotBuilt";
+smaller conditions | [20 var x#: 0..63;]var y: 0..63; agent A; operation s by A dompre [20 x# = y and ]true dompost true; require r on s post true; goal g: true; operationalise g by r; goal h: true; refine g by h using split; | refused: statement 29: NotBuilt";
 
 #[test]
 fn large_lists(rt: HostRuntime) -> Result<(), Fail> {
