@@ -24,6 +24,8 @@ mod operators;
 #[cfg(test)]
 mod parts;
 #[cfg(test)]
+mod patterns;
+#[cfg(test)]
 mod refusals;
 #[cfg(test)]
 mod regression;

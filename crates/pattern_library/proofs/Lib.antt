@@ -1,0 +1,6 @@
+mod Substitution
+mod Filling
+mod Operators
+mod FivePatterns
+mod Bindings
+mod Listed
