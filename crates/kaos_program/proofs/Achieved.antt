@@ -1,5 +1,5 @@
 -- A complete operationalisation that holds makes its goal true on each trace of its operations.
-use Rattle.std.proofs.Common.{◌≡◌, ℕ, List, [], ◌∷◌, subst, sym}
+use Rattle.std.proofs.Common.{ℕ, List, [], ◌∷◌, None, subst, sym}
 use Rattle.std.specs.List.{AllZip}
 use Rattle.goal_model.specs.declared.item.Wanted.TheVariants.{NoTrace}
 use Rattle.goal_model.specs.Models.{ModelForm}
@@ -8,7 +8,7 @@ use Rattle.operationalisation.proofs.OperationLaws.{complete_stands}
 use Rattle.verdict_report.specs.declared.report.Verdict.TheVariants.{Holds}
 use Rattle.verdict_report.specs.declared.report.Entry.{Entry}
 use Rattle.verdict_report.specs.Laws.{Tells}
-use Rattle.verdict_report.specs.Reports.{Question, of_traces, IsEntry}
+use Rattle.verdict_report.specs.Reports.{Question, IsEntry}
 use Rattle.verdict_report.proofs.VerdictLaws.{right_tells}
 use Rattle.kaos_program.specs.Achievements.{IsAchieved}
 
@@ -16,13 +16,9 @@ module _ (m : ModelForm) (budget : ℕ) where
   achieved : (q : Question) (e : Entry) → IsEntry m budget q e → IsAchieved m q e
   achieved q e right statement goal requirements asked holds =
       let item = operation_complete_item m statement goal requirements in
-      let question : of_traces item.label item.parts NoTrace ≡ q = heads (of_traces item.label item.parts NoTrace) q asked in
-      let entry = subst (λ (x : Question). IsEntry m budget x e) (sym question) right in
-      let tells : Tells m budget NoTrace item.parts Holds = subst (Tells m budget NoTrace item.parts) holds (right_tells m budget NoTrace item.parts e.verdict e.evidence entry.2) in
+      let entry = subst (λ (x : Question). IsEntry m budget x e) (sym asked) right in
+      let tells : Tells m budget NoTrace item.parts None Holds = subst (Tells m budget NoTrace item.parts None) holds (right_tells m budget NoTrace item.parts None e.verdict e.evidence entry.2) in
       (complete_stands m statement goal requirements).0 tells.0
-    where
-      heads : (x y : Question) → x ∷ [] ≡ y ∷ [] → x ≡ y
-      heads x y e = cc
 
   -- and so do all of a report
   pub all_achieved : (qs : List Question) (es : List Entry) → AllZip (IsEntry m budget) qs es → AllZip (IsAchieved m) qs es

@@ -8,7 +8,7 @@ use Rattle.model_text.specs.Statements.{StatementForm}
 use Rattle.model_text.specs.Readability.{IsReadable, Refuses}
 use Rattle.goal_model.specs.declared.refusal.RefusalKind.{RefusalKind}
 use Rattle.goal_model.specs.Models.{ModelForm}
-use Rattle.goal_model.specs.Resolution.{made, refuses, outcome_of}
+use Rattle.goal_model.specs.Resolution.{refuses, outcome_of}
 use Rattle.verdict_report.specs.declared.report.Report.{Report}
 use Rattle.obstacle_regression.specs.declared.standing.Standing.{Standing}
 use Rattle.obstacle_regression.specs.Candidates.{FoundForm}
@@ -18,12 +18,11 @@ use Rattle.kaos_program.specs.declared.status.Status.{Status}
 use Rattle.kaos_program.specs.declared.status.Status.TheVariants as statuses
 use Rattle.kaos_program.specs.Statuses.{status_of_truths}
 use Rattle.kaos_program.specs.Commands.{CommandForm, regress, trace}
-use Rattle.kaos_program.specs.Unanswered.{first_unanswered}
 use Rattle.kaos_program.specs.Truths.{AreTruths}
 use Rattle.kaos_program.specs.Regressing.{goal_named, status_of_standings, regression_text}
-use Rattle.kaos_program.specs.RefusalTexts.{text_refusal, model_refusal, not_built, no_goal}
+use Rattle.kaos_program.specs.RefusalTexts.{text_refusal, model_refusal, no_goal}
 use Rattle.kaos_program.specs.TruthTexts.{truths_text}
-use Rattle.kaos_program.specs.Answering.{IsAccepted, IsRefused, a_text, its_statements, a_link, Answers, a_refusal, no_such_goal, candidates, truths}
+use Rattle.kaos_program.specs.Answering.{IsAccepted, IsRefused, a_text, its_statements, Answers, a_refusal, no_such_goal, candidates, truths}
 
 -- a cause that is not want of memory
 pub text_cause : (bytes : List ℕ) (e : TextRefusal) → (e ≡ texts.Memory) ⊎ Refuses bytes e → (e ≡ texts.Memory → ⊥) → Refuses bytes e
@@ -35,10 +34,6 @@ text_line bytes e line size cause is = rw is (a_text e size cause)
 pub model_line : (bytes : List ℕ) (ss : List StatementForm) (kind : RefusalKind) (statement : ℕ) (name line : List ℕ) → length bytes ≤ 1048576 → IsReadable bytes ss → outcome_of ss ≡ refuses kind statement name
     → line ≡ model_refusal kind statement name → IsRefused bytes line
 model_line bytes ss kind statement name line size read cause is = rw is (its_statements ss kind statement name size read cause)
-
-pub link_line : (bytes : List ℕ) (ss : List StatementForm) (m : ModelForm) (statement : ℕ) (line : List ℕ) → length bytes ≤ 1048576 → IsReadable bytes ss → outcome_of ss ≡ made m → first_unanswered m.links ≡ Some statement
-    → line ≡ not_built statement → IsRefused bytes line
-link_line bytes ss m statement line size read makes first is = rw is (a_link ss m statement size read makes first)
 
 pub traced : (bytes : List ℕ) (ss : List StatementForm) (m : ModelForm) (rows : List (List Bool)) (status : Status) (out : List ℕ) → IsAccepted bytes ss m → AreTruths m rows → status ≡ status_of_truths rows → out ≡ truths_text m rows
     → Answers bytes trace status None out

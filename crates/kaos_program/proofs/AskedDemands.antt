@@ -13,12 +13,13 @@ use Rattle.tableau_rules.specs.declared.query.Query.{Query}
 use Rattle.tableau_rules.specs.Answers.{IsValidAnswer}
 use Rattle.tableau_rules.specs.QueryView.{cores_in}
 use Rattle.goal_model.specs.declared.demand.Demand.{Demand}
+use Rattle.goal_model.specs.declared.pattern.PatternKind.{PatternKind}
 use Rattle.goal_model.specs.Models.{ModelForm, sizes_of}
 use Rattle.goal_model.specs.Demands.{IsAnswerable}
 use Rattle.verdict_report.specs.Reports.{Question, of_traces, of_agent}
 use Rattle.kaos_program.specs.declared.asking.Asked.{Asked}
-use Rattle.kaos_program.specs.declared.asking.Asked.TheVariants.{Demand as DemandAsked, Assignment}
-use Rattle.kaos_program.specs.Asking.{IsAsked, demand_in, demands_in, query_asked}
+use Rattle.kaos_program.specs.declared.asking.Asked.TheVariants.{Demand as DemandAsked, Instance, Assignment}
+use Rattle.kaos_program.specs.Asking.{IsAsked, demand_in, demands_in, pattern_in, patterns_in, query_asked}
 
 -- demands of a list that has one more behind it
 pub demands_more : (asked : List Asked) (k : ℕ) (one : Asked) → k < length asked → one ≡ get_or asked k one → demands_in (take (k + 1) asked) ≡ demands_in (take k asked) ++ demand_in one
@@ -27,6 +28,14 @@ demands_more asked k one inside at =
   where
     demands_push : (xs : List Asked) (x : Asked) → demands_in (xs ++ x ∷ []) ≡ demands_in xs ++ demand_in x
     demands_push xs x = flat_map-append demand_in xs (x ∷ []) ∙ ap (λ (ds : List Demand). demands_in xs ++ ds) (append-nil (demand_in x))
+
+-- and patterns
+pub patterns_more : (asked : List Asked) (k : ℕ) (one : Asked) → k < length asked → one ≡ get_or asked k one → patterns_in (take (k + 1) asked) ≡ patterns_in (take k asked) ++ pattern_in one
+patterns_more asked k one inside at =
+    ap patterns_in (take_more asked k one inside ∙ ap (λ (x : Asked). take k asked ++ x ∷ []) (sym at)) ∙ patterns_push (take k asked) one
+  where
+    patterns_push : (xs : List Asked) (x : Asked) → patterns_in (xs ++ x ∷ []) ≡ patterns_in xs ++ pattern_in x
+    patterns_push xs x = flat_map-append pattern_in xs (x ∷ []) ∙ ap (λ (ks : List PatternKind). patterns_in xs ++ ks) (append-nil (pattern_in x))
 
 module _ (m : ModelForm) where
   abbrev CanAnswer : Demand → Type 0
@@ -37,9 +46,12 @@ module _ (m : ModelForm) where
   all_answerable [] [] is = All-nil CanAnswer
   all_answerable [] (one ∷ asked) is = absurd is
   all_answerable (q ∷ qs) [] is = absurd is
-  all_answerable (of_traces label parts wanted ∷ qs) (DemandAsked d ∷ asked) is = All-cons CanAnswer d (demands_in asked) (subst (λ (fs : List Ltl). IsAnswerable m fs) (sym is.0.1) is.0.3) (all_answerable qs asked is.1)
-  all_answerable (of_traces label parts wanted ∷ qs) (Assignment l cover ∷ asked) is = absurd is.0
+  all_answerable (of_traces label parts wanted named ∷ qs) (DemandAsked d ∷ asked) is =
+      All-cons CanAnswer d (demands_in asked) (subst (λ (fs : List Ltl). IsAnswerable m fs) (sym is.0.0.1) is.0.0.3) (all_answerable qs asked is.1)
+  all_answerable (of_traces label parts wanted named ∷ qs) (Instance d kind ∷ asked) is = all_answerable qs asked is.1
+  all_answerable (of_traces label parts wanted named ∷ qs) (Assignment l cover ∷ asked) is = absurd is.0
   all_answerable (of_agent label goal agent ∷ qs) (DemandAsked d ∷ asked) is = absurd is.0
+  all_answerable (of_agent label goal agent ∷ qs) (Instance d kind ∷ asked) is = absurd is.0
   all_answerable (of_agent label goal agent ∷ qs) (Assignment l cover ∷ asked) is = all_answerable qs asked is.1
 
   -- valid answers to the queries are answers to the demands
@@ -71,4 +83,5 @@ pub demand_at : (P : Demand → Type 0) (asked : List Asked) (k : ℕ) (one : As
 demand_at P [] k one d inside at is all = absurd (omega (arith, inside))
 demand_at P (x ∷ asked) zero one d inside at is all = All-head P d (demands_in asked) (subst (λ (y : Asked). All P (demand_in y ++ demands_in asked)) (sym at ∙ is) all)
 demand_at P (DemandAsked e ∷ asked) (suc k) one d inside at is all = demand_at P asked k one d (omega (arith, inside)) at is (All-tail P e (demands_in asked) all)
+demand_at P (Instance e kind ∷ asked) (suc k) one d inside at is all = demand_at P asked k one d (omega (arith, inside)) at is all
 demand_at P (Assignment l cover ∷ asked) (suc k) one d inside at is all = demand_at P asked k one d (omega (arith, inside)) at is all

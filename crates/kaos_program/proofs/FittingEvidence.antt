@@ -1,6 +1,6 @@
 -- The evidence of a right report can be written over the model's variables.
-use Rattle.std.proofs.Common.{◌≡◌, ℕ, ◌<◌, ◌≤◌, ◌⊎◌, inl, inr, Bool, List, [], ◌∷◌, length, get_or, sym, subst, arith}
-use Rattle.std.specs.Prelude.{All, slice_index_or}
+use Rattle.std.proofs.Common.{◌≡◌, ℕ, ◌<◌, ◌≤◌, ◌⊎◌, inl, inr, Bool, List, [], ◌∷◌, length, get_or, Some, None, sym, subst, arith}
+use Rattle.std.specs.Prelude.{All, Option, slice_index_or}
 use Rattle.std.specs.List.{AllZip}
 use Rattle.std.proofs.lemmas.Bool.{cases_lt}
 use Rattle.std.proofs.lemmas.List.{length-map, get_or_past}
@@ -12,6 +12,7 @@ use Rattle.tableau_rules.specs.declared.answer.Answer.{Answer}
 use Rattle.tableau_rules.specs.declared.answer.Answer.TheVariants.{Empty, Found, Withheld}
 use Rattle.tableau_rules.specs.CertView.{cert_of}
 use Rattle.goal_model.specs.declared.item.Part.{Part}
+use Rattle.goal_model.specs.declared.pattern.PatternKind.{PatternKind}
 use Rattle.goal_model.specs.Models.{GoalForm, ModelForm, sizes_of}
 use Rattle.goal_model.specs.Items.{no_goal}
 use Rattle.agent_capabilities.specs.declared.cover.Cover.{Cover}
@@ -26,11 +27,15 @@ use Rattle.verdict_report.specs.Verdicts.{IsFound, evidence_of, cover_evidence}
 use Rattle.verdict_report.specs.Reports.{Question, of_traces, of_agent, IsEntry, questions_of, Reports}
 
 module _ (m : ModelForm) (goals_fit : (g : ℕ) → Fits m.ranges (slice_index_or m.goals g no_goal).formula) (budget : ℕ) where
-  answer_fits : (parts : List (Part × Bool)) (a : Answer) → IsFound m budget parts a → EvidenceFits (sizes_of m) (evidence_of a)
-  answer_fits parts (Empty cert) (none, size, has, few, valid, short) =
+  answer_fits : (parts : List (Part × Bool)) (by : Option PatternKind) (a : Answer) → IsFound m by budget parts a → EvidenceFits (sizes_of m) (evidence_of by a)
+  answer_fits parts None (Empty cert) (none, size, has, few, valid, short) =
       λ k c inside. (valid.shape k (get_or (cert_of cert) k c) (slice_get-get_or (cert_of cert) k c inside)).variables
-  answer_fits parts (Found lasso) found = found.0
-  answer_fits parts (Withheld number) found = tt
+  answer_fits parts (Some kind) (Empty cert) (none, size, has, few, valid, short) =
+      λ k c inside. (valid.shape k (get_or (cert_of cert) k c) (slice_get-get_or (cert_of cert) k c inside)).variables
+  answer_fits parts None (Found lasso) found = found.0
+  answer_fits parts (Some kind) (Found lasso) found = found.0
+  answer_fits parts None (Withheld number) found = tt
+  answer_fits parts (Some kind) (Withheld number) found = tt
 
   -- as many sizes as ranges
   sized : (x : ℕ) → x < length m.ranges → x < length (sizes_of m)
@@ -45,7 +50,7 @@ module _ (m : ModelForm) (goals_fit : (g : ℕ) → Fits m.ranges (slice_index_o
       sized x.0 (occurring_below m.ranges (slice_index_or m.goals goal no_goal).formula (goals_fit goal) x.0 (uncontrolled_named (slice_index_or m.agents agent no_agent) (slice_index_or m.goals goal no_goal).formula x.0 (sym covers)).0)
 
   entry_fits : (q : Question) (e : Entry) → IsEntry m budget q e → EvidenceFits (sizes_of m) e.evidence
-  entry_fits (of_traces label parts wanted) e is = subst (EvidenceFits (sizes_of m)) (sym is.2.evidence) (answer_fits parts is.2.answer is.2.found)
+  entry_fits (of_traces label parts wanted named) e is = subst (EvidenceFits (sizes_of m)) (sym is.2.evidence) (answer_fits parts is.2.by is.2.answer is.2.found)
   entry_fits (of_agent label goal agent) e is = subst (EvidenceFits (sizes_of m)) (sym is.2.evidence) (cover_fits goal agent is.2.cover is.2.covers)
 
   entries_fit : (qs : List Question) (es : List Entry) → AllZip (IsEntry m budget) qs es → All (λ e. EvidenceFits (sizes_of m) e.evidence) es

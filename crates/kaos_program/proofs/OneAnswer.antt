@@ -25,10 +25,9 @@ use Rattle.kaos_program.specs.declared.status.Status.{Status}
 use Rattle.kaos_program.specs.declared.status.Status.TheVariants.{Held, Failed, Withheld}
 use Rattle.kaos_program.specs.Statuses.{status_of, status_of_truths}
 use Rattle.kaos_program.specs.Truths.{AreTruthsOn, AreTruthRows, AreTruths}
-use Rattle.kaos_program.specs.Unanswered.{first_unanswered}
 use Rattle.kaos_program.specs.Commands.{CommandForm}
 use Rattle.kaos_program.specs.Regressing.{goal_named, status_of_standings}
-use Rattle.kaos_program.specs.Answering.{IsAccepted, IsRefused, too_long, a_text, its_statements, a_link, Answers, a_refusal, a_report, no_such_goal, candidates, truths}
+use Rattle.kaos_program.specs.Answering.{IsAccepted, IsRefused, too_long, a_text, its_statements, Answers, a_refusal, a_report, no_such_goal, candidates, truths}
 use Rattle.kaos_program.specs.Laws.{verdicts_in}
 use Rattle.kaos_program.proofs.OneStanding.{same_standings}
 
@@ -56,8 +55,6 @@ accepted_refused bytes line ss m a (too_long over) = let size = a.size in omega 
 accepted_refused bytes line ss m a (a_text e size cause) = never_both bytes e ss cause a.readable
 accepted_refused bytes line ss m a (its_statements rs kind statement name size read refused) =
     made_refuses m kind statement name (sym a.made ∙ ap outcome_of (one_reading bytes ss rs a.readable read) ∙ refused)
-accepted_refused bytes line ss m a (a_link rs n statement size read makes first) =
-    none-some statement (sym a.answered ∙ subst (λ (x : ModelForm). first_unanswered x.links ≡ Some statement) (sym (one_model bytes ss rs m n a.readable a.made read makes)) first)
 
 -- ---- reports
 
@@ -67,9 +64,9 @@ verdict_in e = (label_of e.label, e.verdict)
 
 -- two right entries for a question
 one_entry : (m : ModelForm) (budget : ℕ) (q : Question) (e f : Entry) → IsEntry m budget q e → IsEntry m budget q f → verdict_in e ≡ verdict_in f
-one_entry m budget (of_traces label parts wanted) e f a b =
+one_entry m budget (of_traces label parts wanted named) e f a b =
     let labels : label_of e.label ≡ label_of f.label = a.0 ∙ sym b.0 in
-    let verdicts : e.verdict ≡ f.verdict = one_right m budget wanted parts e.verdict f.verdict e.evidence f.evidence a.2 b.2 in
+    let verdicts : e.verdict ≡ f.verdict = one_right m budget wanted parts named e.verdict f.verdict e.evidence f.evidence a.2 b.2 in
     cc (labels, verdicts)
 one_entry m budget (of_agent label goal agent) e f a b =
     let labels : label_of e.label ≡ label_of f.label = a.0 ∙ sym b.0 in

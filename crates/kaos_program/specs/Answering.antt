@@ -19,28 +19,23 @@ use Rattle.kaos_program.specs.declared.status.Status.TheVariants as statuses
 use Rattle.kaos_program.specs.Statuses.{status_of, status_of_truths}
 use Rattle.kaos_program.specs.Commands.{CommandForm, check, regress, trace}
 use Rattle.kaos_program.specs.Achievements.{IsAchieved}
-use Rattle.kaos_program.specs.Unanswered.{first_unanswered}
 use Rattle.kaos_program.specs.Truths.{AreTruths}
 use Rattle.kaos_program.specs.Regressing.{goal_named, status_of_standings, regression_text}
-use Rattle.kaos_program.specs.RefusalTexts.{too_long_text, text_refusal, model_refusal, not_built, no_goal}
+use Rattle.kaos_program.specs.RefusalTexts.{too_long_text, text_refusal, model_refusal, no_goal}
 use Rattle.kaos_program.specs.TruthTexts.{truths_text}
 
--- the bytes are within their limit and spell these statements, which make this model, and the demands of all its links are answered
+-- the bytes are within their limit and spell these statements, which make this model
 pub record IsAccepted (bytes : List ℕ) (statements : List StatementForm) (m : ModelForm) : Type 0 where
   pub size : length bytes ≤ 1048576
   pub readable : IsReadable bytes statements
   pub made : outcome_of statements ≡ made m
-  pub answered : first_unanswered m.links ≡ None
 
--- the line for a text that is not accepted: it is too long, it has no statements, these make no model, or the demands of a link are not
--- answered yet
+-- the line for a text that is not accepted: it is too long, it has no statements, or these make no model
 pub data IsRefused (bytes : List ℕ) : List ℕ → Type 0 where
   too_long : 1048576 < length bytes → IsRefused bytes too_long_text
   a_text : (e : TextRefusal) → length bytes ≤ 1048576 → Refuses bytes e → IsRefused bytes (text_refusal e)
   its_statements : (ss : List StatementForm) (kind : RefusalKind) (statement : ℕ) (name : List ℕ) → length bytes ≤ 1048576 → IsReadable bytes ss
       → outcome_of ss ≡ refuses kind statement name → IsRefused bytes (model_refusal kind statement name)
-  a_link : (ss : List StatementForm) (m : ModelForm) (statement : ℕ) → length bytes ≤ 1048576 → IsReadable bytes ss → outcome_of ss ≡ made m
-      → first_unanswered m.links ≡ Some statement → IsRefused bytes (not_built statement)
 
 -- the status, the report and the output that bytes have under a command: a text that is not accepted is refused; else there is the report
 -- that answers each question under the budget, in the form that is asked for, in which a complete operationalisation that holds makes its

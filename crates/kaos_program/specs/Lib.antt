@@ -2,7 +2,6 @@ pub mod Commands
 pub mod Options
 pub mod UsageText
 pub mod Statuses
-pub mod Unanswered
 pub mod Truths
 pub mod TruthTexts
 pub mod Regressing

@@ -49,10 +49,6 @@ statement_refusal number words = codes "refused: statement " ++ decimal number +
 abbrev pub model_refusal : RefusalKind → ℕ → List ℕ → List ℕ
 model_refusal kind statement name = statement_refusal statement (kind_name kind ++ codes " " ++ name)
 
--- the line for a link whose demands are not answered yet
-abbrev pub not_built : ℕ → List ℕ
-not_built statement = statement_refusal statement (codes "NotBuilt")
-
 -- the line for a goal that a command names and the model has not
 abbrev pub no_goal : List ℕ → List ℕ
 no_goal name = codes "refused: no goal " ++ name ++ codes "\n"

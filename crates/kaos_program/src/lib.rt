@@ -16,7 +16,6 @@ mod running;
 mod status;
 mod truths;
 mod truths_text;
-mod unanswered;
 
 pub use law::{law_of_answers, law_of_words};
 pub use running::{Outcome, run};

@@ -1,16 +1,14 @@
 //! From the bytes of a text to its model, or to the line that says why there is none.
 
-ghost use Rattle.std.specs.Prelude.{◌≡◌, ◌≤◌, ℕ, List, All, length, vec_len, IfOk};
+ghost use Rattle.std.specs.Prelude.{◌≤◌, ℕ, List, All, length, vec_len, IfOk};
 ghost use Rattle.model_text.specs.Statements.{StatementForm, statements_of};
 ghost use Rattle.model_text.specs.Readability.{IsReadable};
-ghost use Rattle.goal_model.specs.ModelViews.{model_of};
 ghost use Rattle.goal_model.specs.WholeDrafts.{IsShallow};
-ghost use Rattle.goal_model.specs.Resolution.{made, outcome_of};
+ghost use Rattle.goal_model.specs.Resolution.{outcome_of};
 ghost use Rattle.goal_model.specs.Outcomes.{Refuses};
 ghost use Rattle.kaos_program.specs.Readings.{ReadsTo};
 
-use crate::refusal_text::{model_refusal, not_built, text_refusal};
-use crate::unanswered::first_unanswered;
+use crate::refusal_text::{model_refusal, text_refusal};
 use goal_model::{Model, ModelRefusal, resolve};
 use model_text::{RawModel, read_model};
 use source_sink::Memory;
@@ -26,17 +24,6 @@ pub(crate) enum Reading {
     Accepted(RawModel, Model),
     /// The line that says why there is none.
     Refused(Vec<u8>),
-}
-
-// The model of statements, unless a link of it has demands that are not answered yet.
-fn accepted(alloc: Global, raw: RawModel, model: Model) -> Result<Reading, Memory>
-    ensures read { (bytes : List ℕ) → length bytes ≤ MOST_BYTES → IsReadable bytes (statements_of raw) → outcome_of (statements_of raw) ≡ made (model_of model)
-        → IfOk result (ReadsTo bytes) }
-{
-    match first_unanswered(model.links()) {
-        Some(statement) => Ok(Reading::Refused(not_built(alloc, statement)?)),
-        None => Ok(Reading::Accepted(raw, model)),
-    }
 }
 
 // The line for statements that make no model. Want of memory is no such cause, and comes back as an error.
@@ -61,7 +48,7 @@ fn resolved(alloc: Global, raw: RawModel) -> Result<Reading, Memory>
     ensures read { (bytes : List ℕ) → length bytes ≤ MOST_BYTES → IsReadable bytes (statements_of raw) → IfOk result (ReadsTo bytes) }
 {
     match resolve(alloc, &raw) {
-        Ok(model) => accepted(alloc, raw, model),
+        Ok(model) => Ok(Reading::Accepted(raw, model)),
         Err(refusal) => refused_statements(alloc, refusal),
     }
 }

@@ -3,7 +3,7 @@
 //! specs/RefusalTexts.antt and in docs/LANGUAGE.md.
 
 ghost use Rattle.std.specs.Prelude.{◌≡◌, ◌++◌, codes, decimal, IfOk};
-ghost use Rattle.kaos_program.specs.RefusalTexts.{no_goal as no_goal_of, limit_name as limit_name_of, kind_name as kind_name_of, text_refusal as text_refusal_of, statement_refusal as statement_refusal_of, model_refusal as model_refusal_of, not_built as not_built_of};
+ghost use Rattle.kaos_program.specs.RefusalTexts.{no_goal as no_goal_of, limit_name as limit_name_of, kind_name as kind_name_of, text_refusal as text_refusal_of, statement_refusal as statement_refusal_of, model_refusal as model_refusal_of};
 
 use goal_model::RefusalKind;
 use model_text::{LimitKind, TextRefusal};
@@ -106,13 +106,6 @@ pub(crate) fn model_refusal(
     put(&mut words, b" ")?;
     put(&mut words, name.bytes())?;
     statement_refusal(alloc, statement, &words)
-}
-
-/// The line for a link, by the number of its statement, whose demands are not answered yet.
-pub(crate) fn not_built(alloc: Global, statement: u32) -> Result<Vec<u8>, Memory>
-    ensures { IfOk result (λ line. line.items ≡ not_built_of statement) }
-{
-    statement_refusal(alloc, statement, b"NotBuilt")
 }
 
 /// The line for a goal that the words name and the model has not.

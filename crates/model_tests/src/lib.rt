@@ -4,6 +4,8 @@
 #![tactic(auto)]
 
 #[cfg(test)]
+mod by_pattern;
+#[cfg(test)]
 mod candidates;
 #[cfg(test)]
 mod conflicts;
@@ -39,5 +41,7 @@ mod runs;
 mod texts;
 #[cfg(test)]
 mod traces;
+#[cfg(test)]
+mod whole_models;
 #[cfg(test)]
 mod words;

@@ -1,13 +1,17 @@
 //! Patterns, and what is an instance of one: the first goal of a text and the next ones as its subgoals, so many as a row says. The goals
 //! behind them are the formulas that placeholders are due to have, in the order in which they first occur in the pattern.
 
-use crate::texts::{bytes_of, compare, cut, model_in, number, parts_of};
+use crate::texts::{bytes_of, compare, cut, holds, model_in, number, parts_of};
+use entailment::Engine;
 use goal_model::{Goal, Model, PatternKind};
-use pattern_library::{Binding, library, match_pattern};
+use pattern_library::{
+    Binding, are_instance, library, match_pattern, pattern_name, pattern_query, placeholder_space,
+};
 use source_sink::Memory;
 use std::alloc::Global;
 use std::process::Abort;
 use std::test::Fail;
+use tableau_rules::{Answer, Answerer};
 use temporal_logic::Formula;
 
 fn kind_of(word: &str) -> PatternKind {
@@ -36,6 +40,18 @@ fn has(binding: &Binding, due: &[Goal]) -> bool {
         && pairs.all(|(formula, goal)| formula.is_same(&goal.formula))
 }
 
+// Whether subgoals and a negated parent are those of an instance.
+fn are_of_instance(
+    alloc: Global,
+    kind: PatternKind,
+    parent: &Formula,
+    subgoals: &[Goal],
+) -> Result<bool, Memory> {
+    let mut list = formulas_of(alloc, subgoals)?;
+    list.push(Formula::Not(Box::new(alloc, parent.clone(alloc)?)?))?;
+    are_instance(alloc, kind, &list)
+}
+
 fn found(
     alloc: Global,
     kind: PatternKind,
@@ -47,10 +63,11 @@ fn found(
     let subgoals = formulas_of(alloc, &others[..count])?;
     let pattern = library(alloc, kind)?;
     let due = &others[count..];
+    let is_instance = are_of_instance(alloc, kind, &parent.formula, &others[..count])?;
     let Some(binding) = match_pattern(alloc, &pattern, &parent.formula, &subgoals)? else {
-        return Ok("none");
+        return Ok(if is_instance { "an instance" } else { "none" });
     };
-    Ok(if has(&binding, due) {
+    Ok(if is_instance && has(&binding, due) {
         "found"
     } else {
         "another"
@@ -94,6 +111,42 @@ fn instances(rt: HostRuntime) -> Result<(), Fail> {
         let model = model_in(&rt, alloc, &bytes_of(alloc, VARIABLES, statements)?)?;
         let made = found(alloc, kind_of(kind), number(count)?, &model)?;
         compare(&rt, name, made, due);
+    }
+    Ok(())
+}
+
+// How many nodes the certificate of an answer has.
+fn nodes_of(answer: &Answer) -> Option<usize> {
+    match answer {
+        Answer::Empty(cert) => Some(cert.nodes.len()),
+        _ => None,
+    }
+}
+
+// The nodes that a certificate for the query of a pattern may have at most, and the placeholders.
+const QUERIES: &str = "\
+milestone | 409 | 3
+cases | 377 | 4
+guard | 1079 | 3
+split | 29 | 3
+induction | 43 | 2";
+
+#[test]
+fn queries(rt: HostRuntime) -> Result<(), Fail> {
+    let alloc = rt.alloc();
+    for row in QUERIES.lines() {
+        let (name, nodes, placeholders) = parts_of(row)?;
+        let kind = kind_of(name);
+        let pattern = library(alloc, kind)?;
+        let (space, query) = pattern_query(alloc, &pattern)?;
+        let count = space.count() as usize;
+        holds(&rt, name, count == number(placeholders)?);
+        let alone = placeholder_space(alloc, pattern.placeholders)?;
+        holds(&rt, name, alone.count() as usize == count);
+        holds(&rt, name, pattern_name(kind) == name.as_bytes());
+        let answer = Engine.answer(alloc, &space, &query, 20_000)?;
+        let used = nodes_of(&answer).ok_or("a trace of a pattern")?;
+        holds(&rt, name, used <= number(nodes)?);
     }
     Ok(())
 }

@@ -33,14 +33,30 @@ fn both_refuse(
     refuses(rt, alloc, name, "[trace]", bytes, &due)
 }
 
-fn is_refused(rt: &impl Abort, alloc: Global, front: &str, row: &str) -> Result<(), Fail> {
+// What is left to refuse of a text that is accepted is the name of a goal that it has not.
+fn is_accepted(rt: &impl Abort, alloc: Global, name: &str, bytes: &[u8]) -> Result<(), Fail> {
+    let words = "[regress] [--goal] [nothing]";
+    refuses(
+        rt,
+        alloc,
+        name,
+        words,
+        bytes,
+        "2\nrefused: no goal nothing\n",
+    )
+}
+
+fn comes_to(rt: &impl Abort, alloc: Global, front: &str, row: &str) -> Result<(), Fail> {
     let (name, text, line) = parts_of(row)?;
     let bytes = bytes_of(alloc, front, text)?;
+    if line == "accepted" {
+        return is_accepted(rt, alloc, name, &bytes);
+    }
     both_refuse(rt, alloc, name, &bytes, line)
 }
 
-/// Each row has a text, behind a front that may be empty, and its line. A row that begins with `# ` is a heading.
-pub(crate) fn are_refused(
+/// Each row has a text, behind a front that may be empty, and its line, or `accepted`. A row that begins with `# ` is a heading.
+pub(crate) fn come_to(
     rt: &impl Abort,
     alloc: Global,
     front: &str,
@@ -48,7 +64,7 @@ pub(crate) fn are_refused(
 ) -> Result<(), Fail> {
     for row in table.lines() {
         if !row.starts_with("# ") {
-            is_refused(rt, alloc, front, row)?;
+            comes_to(rt, alloc, front, row)?;
         }
     }
     Ok(())
@@ -73,7 +89,7 @@ a byte of no token | goal R: always \u{e4}; | refused: bad byte at 72";
 
 #[test]
 fn faults_of_syntax(rt: HostRuntime) -> Result<(), Fail> {
-    are_refused(&rt, rt.alloc(), FRONT, SYNTAX)
+    come_to(&rt, rt.alloc(), FRONT, SYNTAX)
 }
 
 const WHOLE_TEXTS: &str = "\
@@ -98,5 +114,5 @@ a text of 1048577 bytes | kaos 1;[1048570  ] | refused: longer than 1048576 byte
 
 #[test]
 fn whole_texts(rt: HostRuntime) -> Result<(), Fail> {
-    are_refused(&rt, rt.alloc(), "", WHOLE_TEXTS)
+    come_to(&rt, rt.alloc(), "", WHOLE_TEXTS)
 }

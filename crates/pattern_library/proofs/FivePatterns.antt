@@ -1,10 +1,12 @@
 -- No trace has the subgoals of one of the five patterns, and not its parent.
 use Rattle.std.proofs.Common.{◌≡◌, ℕ, zero, suc, ◌+◌, ◌-◌, ⊎_elim, [], ◌∷◌, subst, arith}
+use Rattle.std.proofs.lemmas.List.Elements.{All-from_recursion}
 use Rattle.goal_model.specs.declared.pattern.PatternKind.{PatternKind}
 use Rattle.goal_model.specs.declared.pattern.PatternKind.TheVariants.{Milestone, Cases, Guard, Split, Induction}
 use Rattle.temporal_logic.specs.Ltl.{Ltl, truth, flag, neg, conj, disj, entails, next, eventually, always, unless}
 use Rattle.temporal_logic.specs.Truth.{Trace, Truth, Meets, Sometime, Ever}
 use Rattle.pattern_library.specs.Patterns.{pattern_of, pattern_list}
+use Rattle.pattern_library.specs.Instances.{IsOverPlaceholders, IsPattern}
 
 module _ (t : Trace) where
   two_suffice : (a b p : Ltl) → (Truth t a 0 → Truth t b 0 → Truth t p 0) → ¬ (Meets t (a ∷ b ∷ neg p ∷ []))
@@ -53,3 +55,30 @@ module _ (t : Trace) where
   library_refuted Guard = three_suffice _ _ _ _ (guard_true (flag 0) (flag 1) (flag 2))
   library_refuted Split = two_suffice _ _ _ (split_true (flag 0) (flag 1) (flag 2))
   library_refuted Induction = two_suffice _ _ _ (induction_true (flag 0) (flag 1))
+
+-- each is over its placeholders
+pub library_over : (kind : PatternKind) → IsPattern (pattern_of kind)
+library_over Milestone = record {
+  parent = (omega arith, omega arith);
+  subgoals = All-from_recursion (IsOverPlaceholders 3) (pattern_of Milestone).subgoals ((omega arith, omega arith), ((omega arith, omega arith), tt));
+}
+library_over Cases = record {
+  parent = (omega arith, omega arith);
+  subgoals =
+      All-from_recursion (IsOverPlaceholders 4) (pattern_of Cases).subgoals
+      (((omega arith, omega arith), omega arith), (((omega arith, omega arith), omega arith), ((omega arith, (omega arith, omega arith)), tt)));
+}
+library_over Guard = record {
+  parent = (omega arith, omega arith);
+  subgoals =
+      All-from_recursion (IsOverPlaceholders 3) (pattern_of Guard).subgoals
+      (((omega arith, omega arith), omega arith), ((omega arith, omega arith), ((omega arith, (omega arith, omega arith)), tt)));
+}
+library_over Split = record {
+  parent = (omega arith, (omega arith, omega arith));
+  subgoals = All-from_recursion (IsOverPlaceholders 3) (pattern_of Split).subgoals ((omega arith, omega arith), ((omega arith, omega arith), tt));
+}
+library_over Induction = record {
+  parent = (omega arith, omega arith);
+  subgoals = All-from_recursion (IsOverPlaceholders 2) (pattern_of Induction).subgoals ((omega arith, omega arith), ((omega arith, omega arith), tt));
+}

@@ -4,3 +4,5 @@ mod Operators
 mod FivePatterns
 mod Bindings
 mod Listed
+mod Placeholders
+pub mod LibraryLaws

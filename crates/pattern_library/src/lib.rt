@@ -5,8 +5,10 @@
 mod law;
 mod matching;
 mod pattern;
+mod query;
 mod shape;
 
 pub use law::{law_of_instances, law_of_library};
-pub use matching::{Binding, match_pattern};
-pub use pattern::{Pattern, library};
+pub use matching::{Binding, are_instance, match_pattern};
+pub use pattern::{Pattern, library, pattern_name};
+pub use query::{pattern_query, placeholder_space};

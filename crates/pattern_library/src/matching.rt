@@ -1,15 +1,18 @@
 //! Whether formulas are an instance of a pattern, and by which formulas for its placeholders: pattern and formulas are walked side by side,
 //! and a placeholder takes the first formula that stands in its place.
 
-ghost use Rattle.std.specs.Prelude.{◌≡◌, ◌<◌, ℕ, List, All, length, map, replicate, None, slice_index_or, option_map, IfOk, MatchOption};
+ghost use Rattle.std.specs.Prelude.{◌≡◌, ◌↔◌, ◌<◌, ℕ, List, All, length, map, replicate, None, slice_index_or, option_map, IsTrue, IfOk, MatchOption};
 ghost use Rattle.temporal_logic.specs.Ltl.{Ltl, truth};
 ghost use Rattle.temporal_logic.specs.Trees.{tree_of};
 ghost use Rattle.pattern_library.specs.Instances.{instance_of, IsOverPlaceholders, IsPattern, Matches};
+ghost use Rattle.pattern_library.specs.Patterns.{pattern_of, broken_by};
+ghost use Rattle.pattern_library.specs.PatternQueries.{AreInstance};
 ghost use Rattle.pattern_library.specs.Slots.{slots_of, filled as filled_form, Finds};
 ghost use Rattle.pattern_library.specs.Views.{pattern_form, formulas_of};
 
-use crate::pattern::Pattern;
+use crate::pattern::{Pattern, library};
 use crate::shape::{Shape, is_same_joining, is_same_opening, shape_of};
+use goal_model::PatternKind;
 use source_sink::Memory;
 use std::alloc::Global;
 use temporal_logic::Formula;
@@ -150,4 +153,41 @@ pub fn match_pattern(
         return Ok(None);
     }
     Ok(Some(matching.binding(alloc)?))
+}
+
+// The subgoals and the parent, where the last formula is a negated one.
+fn parts_of(list: &[Formula]) -> Option<(&[Formula], &Formula)>
+    ensures { MatchOption result ((subgoals : List Ltl) (parent : Ltl) → map tree_of list.now ≡ broken_by subgoals parent → ⊥)
+        (λ p. map tree_of list.now ≡ broken_by (map tree_of p.0.now) (tree_of p.1.now)) }
+{
+    let (last, subgoals) = list.split_last()?;
+    match last {
+        Formula::Not(parent) => Some((subgoals, parent)),
+        _ => None,
+    }
+}
+
+// Whether a parent and its subgoals are an instance of a pattern of the library.
+fn is_instance(
+    alloc: Global,
+    kind: PatternKind,
+    parent: &Formula,
+    subgoals: &[Formula],
+) -> Result<bool, Memory>
+    ensures { IfOk result (λ is. IsTrue is ↔ ((formulas : List Ltl) × Matches (pattern_of kind) (tree_of parent.now) (map tree_of subgoals.now) formulas)) }
+{
+    let pattern = library(alloc, kind)?;
+    let binding = match_pattern(alloc, &pattern, parent, subgoals)?;
+    Ok(binding.is_some())
+}
+
+/// Whether formulas are the subgoals, in order, and behind them the negated parent of an instance of a pattern of the library. So is what is
+/// asked of a refinement that is complete by the pattern.
+pub fn are_instance(alloc: Global, kind: PatternKind, list: &[Formula]) -> Result<bool, Memory>
+    ensures { IfOk result (λ are. IsTrue are ↔ AreInstance kind (map tree_of list.now)) }
+{
+    match parts_of(list) {
+        Some((subgoals, parent)) => is_instance(alloc, kind, parent, subgoals),
+        None => Ok(false),
+    }
 }

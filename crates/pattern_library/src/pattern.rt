@@ -1,10 +1,12 @@
 //! Patterns of refinement, and the five that a refinement may name.
 
-ghost use Rattle.std.specs.Prelude.{◌≡◌, map, IfOk, ◌∷◌, []};
+ghost use Rattle.std.specs.Prelude.{◌≡◌, ◌≤◌, map, IfOk, ◌∷◌, []};
 ghost use Rattle.temporal_logic.specs.Ltl as ltl;
 ghost use Rattle.temporal_logic.specs.Trees.{tree_of};
-ghost use Rattle.pattern_library.specs.Instances.{IsPattern};
-ghost use Rattle.pattern_library.specs.Patterns.{pattern_of};
+ghost use Rattle.formula_table.specs.SmallLists.{AreSmall};
+ghost use Rattle.pattern_library.specs.Instances.{IsPattern, placeholder_sizes};
+ghost use Rattle.pattern_library.specs.Patterns.{pattern_of, pattern_list};
+ghost use Rattle.pattern_library.specs.PatternNames.{pattern_name as name_of_pattern};
 ghost use Rattle.pattern_library.specs.Views.{pattern_form};
 
 use goal_model::PatternKind;
@@ -136,10 +138,26 @@ fn induction(alloc: Global) -> Result<Pattern, Memory>
     })
 }
 
-/// The pattern of a name, as formulas over its placeholders. These are numbered in the order in which they first occur, in the parent and then in the subgoals.
+/// The name of a pattern, as a model has it behind `using`.
+pub fn pattern_name(kind: PatternKind) -> &'static [u8]
+    ensures { result.now ≡ name_of_pattern kind }
+{
+    match kind {
+        PatternKind::Milestone => b"milestone",
+        PatternKind::Cases => b"cases",
+        PatternKind::Guard => b"guard",
+        PatternKind::Split => b"split",
+        PatternKind::Induction => b"induction",
+    }
+}
+
+/// The pattern of a kind, as formulas over its placeholders: 2 to 4, which are numbered in the order in which they first occur, in the parent
+/// and then in the subgoals.
 pub fn library(alloc: Global, kind: PatternKind) -> Result<Pattern, Memory>
     ensures form { IfOk result (λ p. pattern_form p ≡ pattern_of kind) }
     ensures over { IfOk result (λ p. IsPattern (pattern_form p)) }
+    ensures few { IfOk result (λ p. p.placeholders ≤ 40) }
+    ensures small { IfOk result (λ p. AreSmall (placeholder_sizes (pattern_form p)) (pattern_list (pattern_form p))) }
 {
     match kind {
         PatternKind::Milestone => milestone(alloc),

@@ -1,1 +1,4 @@
 mod RefinementLaws
+pub mod ItemCounts
+pub mod MarkedGoals
+pub mod Supporting

@@ -8,12 +8,15 @@ use Rattle.elimination_cert.specs.CertTexts.{indented_cert}
 use Rattle.goal_model.specs.Items.{label_of}
 use Rattle.agent_capabilities.specs.declared.cover.Cover.TheVariants.{NotMonitored, NotControlled}
 use Rattle.goal_model.specs.Labels.{label_text}
+use Rattle.pattern_library.specs.Patterns.{pattern_of}
+use Rattle.pattern_library.specs.PatternNames.{pattern_name}
+use Rattle.pattern_library.specs.Instances.{placeholder_sizes}
 use Rattle.verdict_report.specs.declared.form.Form.{Form}
 use Rattle.verdict_report.specs.declared.form.Form.TheVariants.{Full, Brief}
 use Rattle.verdict_report.specs.declared.report.Verdict.{Verdict}
 use Rattle.verdict_report.specs.declared.report.Verdict.TheVariants.{Holds, Fails, Withheld}
 use Rattle.verdict_report.specs.declared.report.Evidence.{Evidence}
-use Rattle.verdict_report.specs.declared.report.Evidence.TheVariants.{Elimination, Trace, Offending}
+use Rattle.verdict_report.specs.declared.report.Evidence.TheVariants.{Elimination, ByPattern, Trace, Offending}
 use Rattle.verdict_report.specs.declared.report.Entry.{Entry}
 use Rattle.verdict_report.specs.declared.report.Report.{Report}
 use Rattle.verdict_report.specs.Reports.{held_count, failed_count, withheld_count}
@@ -25,11 +28,12 @@ verdict_text Holds = codes "holds"
 verdict_text Fails = codes "fails"
 verdict_text (Withheld number) = codes "withheld at " ++ decimal number
 
--- behind the verdict of an assignment that fails: the variable that the agent lacks
-abbrev pub lacking_text : List (List ℕ) → Evidence → List ℕ
-lacking_text names (Offending (NotMonitored x)) = codes ", " ++ slice_index_or names x.0 [] ++ codes " not monitored"
-lacking_text names (Offending (NotControlled x)) = codes ", " ++ slice_index_or names x.0 [] ++ codes " not controlled"
-lacking_text names evidence = []
+-- behind the verdict: the pattern by which a refinement is complete, or the variable that the agent of an assignment lacks
+abbrev pub remark_text : List (List ℕ) → Evidence → List ℕ
+remark_text names (ByPattern kind cert) = codes " by " ++ pattern_name kind
+remark_text names (Offending (NotMonitored x)) = codes ", " ++ slice_index_or names x.0 [] ++ codes " not monitored"
+remark_text names (Offending (NotControlled x)) = codes ", " ++ slice_index_or names x.0 [] ++ codes " not controlled"
+remark_text names evidence = []
 
 -- the highest rank of a certificate's nodes, 0 where it has none
 abbrev pub highest_rank : List CertNodeForm → ℕ
@@ -43,14 +47,16 @@ summary_text cert = codes "  certificate of " ++ decimal (length cert) ++ codes 
 -- the lines below a verdict line, each behind two blanks
 abbrev pub evidence_text : Form → List (List ℕ) → List RangeForm → Evidence → List ℕ
 evidence_text Full names ranges (Elimination cert) = indented_cert (codes "  ") (map size_of ranges) (cert_of cert)
+evidence_text Full names ranges (ByPattern kind cert) = indented_cert (codes "  ") (placeholder_sizes (pattern_of kind)) (cert_of cert)
 evidence_text Full names ranges (Trace l) = lasso_text names ranges l
 evidence_text Brief names ranges (Elimination cert) = summary_text (cert_of cert)
+evidence_text Brief names ranges (ByPattern kind cert) = summary_text (cert_of cert)
 evidence_text Brief names ranges (Trace l) = lasso_text names ranges l
 evidence_text form names ranges evidence = []
 
 -- a verdict line, and the lines of the evidence
 unfoldable pub entry_text : Form → List (List ℕ) → List RangeForm → Entry → List ℕ
-entry_text form names ranges e = label_text (label_of e.label) ++ codes ": " ++ verdict_text e.verdict ++ lacking_text names e.evidence ++ codes "\n" ++ evidence_text form names ranges e.evidence
+entry_text form names ranges e = label_text (label_of e.label) ++ codes ": " ++ verdict_text e.verdict ++ remark_text names e.evidence ++ codes "\n" ++ evidence_text form names ranges e.evidence
 
 -- `total: H hold, F fail, W withheld`, and a line feed
 unfoldable pub total_text : ℕ → ℕ → ℕ → List ℕ

@@ -1,9 +1,6 @@
 -- What is found of the parts that a demand is of, and the verdict that it gives; and the verdict on an assignment.
-use Rattle.std.specs.Prelude.{◌≡◌, ℕ, ◌≤◌, Bool, List, length}
-use Rattle.temporal_logic.specs.Ltl.{Ltl}
+use Rattle.std.specs.Prelude.{◌≡◌, ℕ, ◌≤◌, Bool, List, length, Option, Some, None}
 use Rattle.temporal_logic.specs.Lassos.{trace_of, IsOfSpace}
-use Rattle.bound_unfolding.specs.CoreForm.{CoreForm}
-use Rattle.bound_unfolding.specs.CoreLists.{cores_of}
 use Rattle.tableau_rules.specs.declared.answer.Answer.{Answer}
 use Rattle.tableau_rules.specs.declared.answer.Answer.TheVariants.{Empty, Found, Withheld}
 use Rattle.tableau_rules.specs.Certificates.{IsValid}
@@ -12,32 +9,27 @@ use Rattle.tableau_rules.specs.Graphs.{HasSize, IsWithin, IsLarger}
 use Rattle.goal_model.specs.declared.item.Part.{Part}
 use Rattle.goal_model.specs.declared.item.Wanted.{Wanted}
 use Rattle.goal_model.specs.declared.item.Wanted.TheVariants.{NoTrace, SomeTrace}
+use Rattle.goal_model.specs.declared.pattern.PatternKind.{PatternKind}
 use Rattle.goal_model.specs.Models.{ModelForm, sizes_of}
-use Rattle.goal_model.specs.Items.{list_of}
 use Rattle.goal_model.specs.Conditions.{MeetsParts, HasTrace}
 use Rattle.agent_capabilities.specs.declared.cover.Cover.{Cover}
 use Rattle.agent_capabilities.specs.declared.cover.Cover.TheVariants.{Covered}
 use Rattle.agent_capabilities.specs.Coverage.{cover_of, coverage_at}
+use Rattle.verdict_report.specs.Deciding.{formulas_of, IsDecidedBy, deciding_sizes, deciding_cores}
 use Rattle.verdict_report.specs.declared.report.Verdict.{Verdict}
 use Rattle.verdict_report.specs.declared.report.Verdict.TheVariants as verdicts
 use Rattle.verdict_report.specs.declared.report.Evidence.{Evidence}
 use Rattle.verdict_report.specs.declared.report.Evidence.TheVariants as evidences
 
--- the positive cores of a list over the model's variables
-abbrev pub query_cores : ModelForm → List Ltl → List CoreForm
-query_cores m list = cores_of (sizes_of m) list
-
--- the query that decides a demand: the cores of the domain properties, and of the formulas of the parts
-abbrev pub demand_cores : ModelForm → List (Part × Bool) → List CoreForm
-demand_cores m parts = query_cores m (list_of m parts)
-
--- what is found of parts under a budget: where the tableau has no more nodes than the budget, a valid certificate with no more nodes than
--- the tableau, and no trace meets the parts; or a lasso of the space that meets them. Else nothing but the budget
-abbrev pub IsFound : ModelForm → ℕ → List (Part × Bool) → Answer → Type 0
-IsFound m budget parts (Empty cert) =
-    (HasTrace m parts → ⊥) × (size : ℕ) × HasSize (sizes_of m) (demand_cores m parts) size × (size ≤ budget) × IsValid (sizes_of m) (demand_cores m parts) (cert_of cert) × (length (cert_of cert) ≤ size)
-IsFound m budget parts (Found lasso) = IsOfSpace (sizes_of m) lasso × MeetsParts m (trace_of lasso) parts × IsWithin (sizes_of m) (demand_cores m parts) budget
-IsFound m budget parts (Withheld number) = (number ≡ budget) × IsLarger (sizes_of m) (demand_cores m parts) budget
+-- what is found of parts under a budget, where this pattern decides or none: where the tableau of the deciding query has no more nodes than
+-- the budget, a valid certificate with no more nodes than the tableau, and no trace meets the parts; or a lasso of the space that meets them.
+-- Else nothing but the budget
+abbrev pub IsFound : ModelForm → (by : Option PatternKind) → ℕ → List (Part × Bool) → Answer → Type 0
+IsFound m by budget parts (Empty cert) =
+    (HasTrace m parts → ⊥) × (size : ℕ) × HasSize (deciding_sizes m by) (deciding_cores m by parts) size × (size ≤ budget) × IsValid (deciding_sizes m by) (deciding_cores m by parts) (cert_of cert)
+    × (length (cert_of cert) ≤ size)
+IsFound m by budget parts (Found lasso) = IsOfSpace (sizes_of m) lasso × MeetsParts m (trace_of lasso) parts × IsWithin (deciding_sizes m by) (deciding_cores m by parts) budget
+IsFound m by budget parts (Withheld number) = (number ≡ budget) × IsLarger (deciding_sizes m by) (deciding_cores m by parts) budget
 
 -- the verdict on a demand of which this is found
 abbrev pub verdict_of : Wanted → Answer → Verdict
@@ -48,17 +40,20 @@ verdict_of SomeTrace (Found lasso) = verdicts.Holds
 verdict_of wanted (Withheld number) = verdicts.Withheld number
 
 -- what is shown of it
-abbrev pub evidence_of : Answer → Evidence
-evidence_of (Empty cert) = evidences.Elimination cert
-evidence_of (Found lasso) = evidences.Trace lasso
-evidence_of (Withheld number) = evidences.Nothing
+abbrev pub evidence_of : (by : Option PatternKind) → Answer → Evidence
+evidence_of None (Empty cert) = evidences.Elimination cert
+evidence_of (Some kind) (Empty cert) = evidences.ByPattern kind cert
+evidence_of by (Found lasso) = evidences.Trace lasso
+evidence_of by (Withheld number) = evidences.Nothing
 
--- a verdict and its evidence are right of the parts of which this is wanted, under a budget
-pub record IsRight (m : ModelForm) (budget : ℕ) (wanted : Wanted) (parts : List (Part × Bool)) (said : Verdict) (shown : Evidence) : Type 0 where
+-- a verdict and its evidence are right of the parts of which this is wanted, for which a pattern may be named, under a budget
+pub record IsRight (m : ModelForm) (budget : ℕ) (wanted : Wanted) (parts : List (Part × Bool)) (named : Option PatternKind) (said : Verdict) (shown : Evidence) : Type 0 where
+  pub by : Option PatternKind
+  pub decided : IsDecidedBy (formulas_of m parts) named by
   pub answer : Answer
-  pub found : IsFound m budget parts answer
+  pub found : IsFound m by budget parts answer
   pub verdict : said ≡ verdict_of wanted answer
-  pub evidence : shown ≡ evidence_of answer
+  pub evidence : shown ≡ evidence_of by answer
 
 -- the verdict on an assignment to an agent that covers the goal so
 abbrev pub cover_verdict : Cover → Verdict

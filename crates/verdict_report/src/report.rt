@@ -2,7 +2,7 @@
 //! specs/Verdicts.antt and specs/Reports.antt say.
 
 use agent_capabilities::Cover;
-use goal_model::{Label, Wanted};
+use goal_model::{Label, PatternKind, Wanted};
 use tableau_rules::Cert;
 use temporal_logic::Lasso;
 
@@ -22,6 +22,8 @@ pub enum Evidence {
     Nothing,
     /// A certificate that no trace meets the demand's list.
     Elimination(Cert),
+    /// A certificate that no trace of the placeholders has the subgoals of a pattern and not its parent, which are an instance of it here.
+    ByPattern(PatternKind, Cert),
     /// A trace that meets the demand's list.
     Trace(Lasso),
     /// The variable that the agent of an assignment lacks.

@@ -8,8 +8,11 @@ ghost use Rattle.tableau_rules.specs.CertView.{cert_of};
 ghost use Rattle.goal_model.specs.Models.{sizes_of};
 ghost use Rattle.goal_model.specs.ModelViews.{model_of};
 ghost use Rattle.verdict_report.specs.declared.form.Form.TheVariants.{Full, Brief, Lines};
-ghost use Rattle.verdict_report.specs.Fitting.{EvidenceFits};
-ghost use Rattle.verdict_report.specs.ReportTexts.{verdict_text, highest_rank as highest_rank_of, summary_text, evidence_text, lacking_text, entry_text, total_text, report_text as text_of_report};
+ghost use Rattle.elimination_cert.specs.CertTexts.{indented_cert};
+ghost use Rattle.pattern_library.specs.Patterns.{pattern_of};
+ghost use Rattle.pattern_library.specs.Instances.{placeholder_sizes};
+ghost use Rattle.verdict_report.specs.Fitting.{CertFits, EvidenceFits};
+ghost use Rattle.verdict_report.specs.ReportTexts.{verdict_text, highest_rank as highest_rank_of, summary_text, evidence_text, remark_text, entry_text, total_text, report_text as text_of_report};
 
 use crate::form::Form;
 use crate::lasso_text::put_lasso;
@@ -17,7 +20,8 @@ use crate::report::{Entry, Evidence, Report, Verdict};
 use crate::totals::{Totals, counts};
 use agent_capabilities::Cover;
 use elimination_cert::put_cert;
-use goal_model::{Model, label_text};
+use goal_model::{Model, PatternKind, label_text};
+use pattern_library::{library, pattern_name, placeholder_space};
 use source_sink::{Memory, put, put_decimal};
 use state_space::{Space, VarId};
 use std::alloc::Global;
@@ -44,7 +48,23 @@ fn put_summary(out: &mut Vec<u8>, cert: &Cert) -> Result<(), Memory>
     put(out, b"\n")
 }
 
+// The certificate of a pattern, which is over its placeholders.
+fn put_pattern_cert(
+    alloc: Global,
+    out: &mut Vec<u8>,
+    kind: PatternKind,
+    cert: &Cert,
+) -> Result<(), Memory>
+    requires { CertFits (placeholder_sizes (pattern_of kind)) cert.now }
+    ensures { OnOk result (out.new.items ≡ out.old.items ++ indented_cert (codes "  ") (placeholder_sizes (pattern_of kind)) (cert_of cert.now)) }
+{
+    let pattern = library(alloc, kind)?;
+    let space = placeholder_space(alloc, pattern.placeholders)?;
+    put_cert(out, b"  ", &space, cert)
+}
+
 fn put_evidence(
+    alloc: Global,
     out: &mut Vec<u8>,
     form: Form,
     space: &Space,
@@ -55,7 +75,10 @@ fn put_evidence(
 {
     match (form, evidence) {
         (Form::Full, Evidence::Elimination(cert)) => put_cert(out, b"  ", space, cert),
-        (Form::Brief, Evidence::Elimination(cert)) => put_summary(out, cert),
+        (Form::Full, Evidence::ByPattern(kind, cert)) => put_pattern_cert(alloc, out, *kind, cert),
+        (Form::Brief, Evidence::Elimination(cert) | Evidence::ByPattern(_, cert)) => {
+            put_summary(out, cert)
+        }
         (Form::Full | Form::Brief, Evidence::Trace(lasso)) => put_lasso(out, space, lasso),
         _ => Ok(()),
     }
@@ -71,12 +94,16 @@ fn put_lack(out: &mut Vec<u8>, space: &Space, x: VarId, how: &[u8]) -> Result<()
     put(out, how)
 }
 
-// What the agent of an assignment lacks, if the evidence tells it.
-fn put_lacking(out: &mut Vec<u8>, space: &Space, evidence: &Evidence) -> Result<(), Memory>
+// The pattern that decides, or what the agent of an assignment lacks, if the evidence tells it.
+fn put_remark(out: &mut Vec<u8>, space: &Space, evidence: &Evidence) -> Result<(), Memory>
     requires { EvidenceFits (sizes space.now) evidence.now }
-    ensures { OnOk result (out.new.items ≡ out.old.items ++ lacking_text (names space.now) evidence.now) }
+    ensures { OnOk result (out.new.items ≡ out.old.items ++ remark_text (names space.now) evidence.now) }
 {
     match evidence {
+        Evidence::ByPattern(kind, _) => {
+            put(out, b" by ")?;
+            put(out, pattern_name(*kind))
+        }
         Evidence::Offending(Cover::NotMonitored(x)) => put_lack(out, space, *x, b" not monitored"),
         Evidence::Offending(Cover::NotControlled(x)) => {
             put_lack(out, space, *x, b" not controlled")
@@ -112,9 +139,9 @@ fn put_entry(
     put(out, &label_text(alloc, &entry.label)?)?;
     put(out, b": ")?;
     put_verdict(out, entry.verdict)?;
-    put_lacking(out, space, &entry.evidence)?;
+    put_remark(out, space, &entry.evidence)?;
     put(out, b"\n")?;
-    put_evidence(out, form, space, &entry.evidence)
+    put_evidence(alloc, out, form, space, &entry.evidence)
 }
 
 fn put_entries(

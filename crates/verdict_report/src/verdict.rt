@@ -5,7 +5,7 @@ ghost use Rattle.verdict_report.specs.Verdicts.{verdict_of as verdict_form, evid
 
 use crate::report::{Entry, Evidence, Verdict};
 use agent_capabilities::Cover;
-use goal_model::{Label, Wanted};
+use goal_model::{Label, PatternKind, Wanted};
 use tableau_rules::Answer;
 
 /// The verdict on a demand of whose list this is found.
@@ -23,29 +23,30 @@ pub fn verdict_of(wanted: Wanted, answer: &Answer) -> Verdict
     }
 }
 
-// What is shown of an answer.
-fn evidence_of(answer: Answer) -> Evidence
-    ensures { result ≡ evidence_form answer }
+// What is shown of an answer, which was found by a pattern or by none.
+fn evidence_of(by: Option<PatternKind>, answer: Answer) -> Evidence
+    ensures { result ≡ evidence_form by answer }
 {
-    match answer {
-        Answer::Empty(cert) => Evidence::Elimination(cert),
-        Answer::Found(lasso) => Evidence::Trace(lasso),
-        Answer::Withheld(_) => Evidence::Nothing,
+    match (by, answer) {
+        (None, Answer::Empty(cert)) => Evidence::Elimination(cert),
+        (Some(kind), Answer::Empty(cert)) => Evidence::ByPattern(kind, cert),
+        (_, Answer::Found(lasso)) => Evidence::Trace(lasso),
+        (_, Answer::Withheld(_)) => Evidence::Nothing,
     }
 }
 
-/// The entry of a demand of whose list this is found.
-pub fn entry(label: Label, wanted: Wanted, answer: Answer) -> Entry
+/// The entry of a demand of whose list this is found, by the query of a pattern, or of the list where none is given.
+pub fn entry(label: Label, wanted: Wanted, by: Option<PatternKind>, answer: Answer) -> Entry
     ensures label { result.label ≡ label }
     ensures wanted { result.wanted ≡ Some wanted }
     ensures verdict { result.verdict ≡ verdict_form wanted answer }
-    ensures evidence { result.evidence ≡ evidence_form answer }
+    ensures evidence { result.evidence ≡ evidence_form by answer }
 {
     Entry {
         label,
         wanted: Some(wanted),
         verdict: verdict_of(wanted, &answer),
-        evidence: evidence_of(answer),
+        evidence: evidence_of(by, answer),
     }
 }
 

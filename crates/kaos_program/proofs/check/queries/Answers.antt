@@ -9,7 +9,7 @@ use Rattle.kaos_program.specs.Asking.{demand_in, demands_in, query_asked}
 use Rattle.kaos_program.proofs.AskedDemands.{demands_more, demand_at}
 use Rattle.kaos_program.proofs.QueryParts.{list_fits, list_small, cores_more, over_more}
 use Rattle.kaos_program.proofs.check.queries.Goals as goal
-use Rattle.kaos_program.proofs.check.queries.Goals.{in-Demand+in_ok-query_of-in-Demand+in_ok-push-in-Demand, in-Assignment}
+use Rattle.kaos_program.proofs.check.queries.Goals.{in-Demand+in_ok-query_of-in-Demand+in_ok-push-in-Demand, in-Instance, in-Assignment}
 
 pub query_of-requires-clause-fit : goal.query_of-requires-clause-fit
 query_of-requires-clause-fit c =
@@ -39,6 +39,10 @@ asked-preserved c =
             ∙ ap (map (query_asked m)) (sym (more ∙ ap (λ (x : Asked). before ++ demand_in x) w.in-Demand.is));
         over =
             over_more m c.space-space.result.now c.space-space.ensures.ranges c.asked.queries.items w.push.new.self.items w.in_ok-query_of-in-Demand.field-0 c.asked.invariant.over w.in_ok-query_of-in-Demand.ensures.over w.in_ok-push-in-Demand.ensures.items;
+      })
+      | in-Instance w ↦ rw w.queries-is (record {
+        cores = c.asked.invariant.cores ∙ ap (map (query_asked m)) (sym (more ∙ ap (λ (x : Asked). before ++ demand_in x) w.in-Instance.is ∙ append-nil before));
+        over = c.asked.invariant.over;
       })
       | in-Assignment w ↦ rw w.queries-is (record {
         cores = c.asked.invariant.cores ∙ ap (map (query_asked m)) (sym (more ∙ ap (λ (x : Asked). before ++ demand_in x) w.in-Assignment.is ∙ append-nil before));
