@@ -139,7 +139,7 @@ split | 29 | goal P: next next a entails b and eventually c; goal Q: next next a
 induction | 43 | goal P: next next a entails always b; goal Q: next next a entails b; goal R: b entails next b; refine P by Q, R using induction;";
 
 // The line of the demand `complete` under a budget.
-fn complete(alloc: Global, statements: &str, budget: u32) -> Result<String, Fail> {
+fn complete(alloc: Global, statements: &str, budget: usize) -> Result<String, Fail> {
     let front = "kaos 1; var a: bool; var b: bool; var c: bool; var d: bool; ";
     let bytes = bytes_of(alloc, front, statements)?;
     let words = format!(in alloc; "[check] [--form] [lines] [--budget] [{budget}]")?;
@@ -155,7 +155,7 @@ fn sizes(rt: HostRuntime) -> Result<(), Fail> {
     let alloc = rt.alloc();
     for row in SIZES.lines() {
         let (name, nodes, text) = parts_of(row)?;
-        let nodes = number(nodes)? as u32;
+        let nodes = number(nodes)?;
         let by_name = format!(in alloc; "holds by {name}")?;
         compare(&rt, name, &complete(alloc, text, nodes)?, &by_name);
         let fewer = nodes.saturating_sub(1);
